@@ -1,0 +1,9 @@
+/* The plain C that ours is measured against. */
+#include <stddef.h>
+#include <stdint.h>
+
+/* SHA-512 of the message. */
+void plain_sha512(const uint8_t *message, size_t length, uint8_t digest[64]);
+
+/* The offset of the first byte that is not from A to Z, or the length. */
+size_t plain_letters(const uint8_t *text, size_t length);

@@ -1,0 +1,45 @@
+-- Document 01's letters and characters: residues, the base64url alphabet (RFC 4648 section 5), and the check of a digest text.
+use Prim.Native.Nat.{ℕ, suc}
+use mathlib.Core.Bool.{Bool, true, false, not, cond}
+use mathlib.Core.List.{List, [], _∷_}
+use lib.Dec.{leb, ltb, eqb}
+use lib.ListN.{length}
+use Rattle.refusal.specs.Verdict.{Ground, ground}
+use Rattle.stretch.specs.Ascii.{ascii}
+
+-- a residue is a byte from A to Z
+unfoldable pub residue : ℕ → Bool
+residue b = cond (leb 0x41 b) (leb b 0x5A) false
+
+-- the characters of the values 0 to 63
+abbrev pub alphabet : List ℕ
+alphabet = ascii "ABCDEFGHIJKLMNOPQRSTUVWXYZabcdefghijklmnopqrstuvwxyz0123456789-_"
+
+abbrev pub occurs : ℕ → List ℕ → Bool
+occurs c [] = false
+occurs c (x ∷ xs) = cond (eqb c x) true (occurs c xs)
+
+-- a base64url character
+unfoldable pub base64url : ℕ → Bool
+base64url c = occurs c alphabet
+
+-- each of them is in a class
+unfoldable pub every : (ℕ → Bool) → List ℕ → Bool
+every p [] = true
+every p (x ∷ xs) = cond (p x) (every p xs) false
+
+-- the offset of the first byte outside a class, or the length where there is none
+unfoldable pub firstOutside : (ℕ → Bool) → List ℕ → ℕ
+firstOutside p [] = 0
+firstOutside p (x ∷ xs) = cond (p x) (suc (firstOutside p xs)) 0
+
+-- the offset of the first foreign byte
+abbrev pub foreign : List ℕ → ℕ
+foreign s = firstOutside residue s
+
+-- the grounds on which a digest text is turned away: its length first
+unfoldable pub digestTextGrounds : List ℕ → List Ground
+digestTextGrounds d =
+    ground (not (eqb (length d) 32)) 7 32
+    ∷ ground (ltb (firstOutside base64url d) (length d)) 7 (firstOutside base64url d)
+    ∷ []

@@ -1,0 +1,49 @@
+// The base64url alphabet and digest texts.
+use refusal::Outcome;
+use refusal::refuse;
+ghost use mathlib.Core.Path.{_≡_};
+ghost use Rattle.refusal.specs.Verdict.{verdict, tell};
+ghost use Rattle.letters.specs.Letters.{base64url, firstOutside, digestTextGrounds};
+
+fn is_base64url(c: u8) -> bool
+    ensures { λ r. ⌜ r ≡ base64url c ⌝ }
+{
+    if c < b'0' {
+        return c == b'-';
+    }
+    if c < b'A' {
+        return c <= b'9';
+    }
+    if c < b'a' {
+        return c <= b'Z' || c == b'_';
+    }
+    c <= b'z'
+}
+
+fn first_outside(s: &[u8]) -> usize
+    ensures { λ r. ⌜ r ≡ firstOutside base64url (now (s .entry)) ⌝ }
+{
+    let mut i = 0;
+    while i < s.len() {
+        if !is_base64url(s[i]) {
+            return i;
+        }
+        i += 1;
+    }
+    i
+}
+
+// Accepted is a text of 32 base64url characters; any other is refused under 7, with 32 where its
+// length is another, else with the offset of its first bad character.
+pub fn check_digest_text(text: &[u8]) -> Outcome
+    ensures { λ r. ⌜ r ≡ tell Outcome.Refused (verdict (digestTextGrounds (now (text .entry)))) Outcome.Accepted ⌝ }
+{
+    if text.len() != 32 {
+        return Outcome::Refused(refuse(refusal::BAD_DIGEST_TEXT, 32));
+    }
+    let at = first_outside(text);
+    if at < text.len() {
+        return Outcome::Refused(refuse(refusal::BAD_DIGEST_TEXT, at as u64));
+    }
+    Outcome::Accepted
+}

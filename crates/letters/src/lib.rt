@@ -1,0 +1,7 @@
+// The letters of document 01: residues and the first foreign byte of a stretch; the base64url
+// alphabet and the check of a digest text.
+mod base64;
+mod residues;
+
+pub use base64::check_digest_text;
+pub use residues::first_foreign;

@@ -1,0 +1,3 @@
+pub mod Room
+pub mod Unique
+pub mod Verdict

@@ -1,0 +1,51 @@
+// What a call answers when it turns its input away: document 01's number and value, with the
+// numbers and the limits by name. Every crate that refuses stands on this one.
+//
+// specs/Verdict.antt has the ordered grounds of a refusal and the verdict over them.
+ghost use mathlib.Core.Path.{_≡_};
+ghost use Prim.Native.Nat.{_+_};
+ghost use lib.Dec.{ltb};
+
+pub struct Refusal {
+    pub number: u64,
+    pub value: u64,
+}
+
+// The answer of a call that only accepts or refuses.
+pub enum Outcome {
+    Accepted,
+    Refused(Refusal),
+}
+
+// The answer of a call that writes: how many bytes it wrote.
+pub enum Written {
+    Bytes(u64),
+    Refused(Refusal),
+}
+
+pub const OVER_LIMIT: u64 = 1;
+
+pub const FOREIGN_BYTE: u64 = 4;
+
+pub const OUTPUT_TOO_SHORT: u64 = 6;
+
+pub const BAD_DIGEST_TEXT: u64 = 7;
+
+pub const REFERENCE_LIMIT: u64 = 1_000_000_000;
+
+pub fn refuse(number: u64, value: u64) -> Refusal
+    ensures { λ r. ⌜ r ≡ record { number = number; value = value } ⌝ }
+{
+    Refusal { number, value }
+}
+
+// Whether a buffer of `room` bytes is too short for `length` bytes from `place` on, or ends before
+// `place`. No sum is taken, so none can wrap.
+pub fn lacks_room(room: u64, place: u64, length: u64) -> bool
+    ensures { λ r. ⌜ r ≡ ltb room (place + length) ⌝ }
+{
+    if room < place {
+        return true;
+    }
+    room - place < length
+}

@@ -1,0 +1,6 @@
+pub mod Numbers
+pub mod Step
+pub mod Blocks
+pub mod Padding
+pub mod Join
+pub mod Examples

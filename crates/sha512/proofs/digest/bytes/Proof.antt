@@ -1,0 +1,42 @@
+use Prim.Native.Nat.{ℕ}
+use mathlib.Core.List.{_++_}
+use mathlib.Core.Path.{_∙_}
+use native.Mathlib.Omega.{arith}
+use lib.ListN.{replicate, length-append}
+use Rattle.stretch.proofs.Over.{over-next, over-all}
+use Rattle.sha512.specs.Message.{hashBytes, fourWords}
+use Rattle.sha512.proofs.Numbers.{length-fourWords}
+use borrow.Author.Needs.{needs}
+use Rattle.sha512.proofs.digest.bytes.Statement.{statement}
+use Rattle.sha512.proofs.digest.bytes.Tie as tie
+
+slice-aggregate-put-four : tie.Need-slice-aggregate-put-four
+slice-aggregate-put-four c = search needs
+
+put-four-requires : tie.Need-put-four-requires
+put-four-requires c κs = search needs
+
+slice-aggregate-put-four-2 : tie.Need-slice-aggregate-put-four-2
+slice-aggregate-put-four-2 c = search needs
+
+put-four-requires-2 : tie.Need-put-four-requires-2
+put-four-requires-2 c κs = search needs
+
+returns : tie.Need-returns
+unfolding hashBytes
+returns c = let s = c .before .before .before .before .before .before .args .s in
+    let left = fourWords (s .a) (s .b) (s .c) (s .d) in
+    let right = fourWords (s .e) (s .f) (s .g) (s .h) in
+    let zeros = replicate {A = ℕ} 64 0 in
+    rw (c .before .put-four2 .ensures, c .before .before .before .before .put-four .ensures)
+    (over-next zeros 0 32 left right (omega arith) (rw length-fourWords) ∙ over-all zeros (left ++ right) (simp (length-append, length-fourWords)))
+
+pub bytes-spec : {M : Type 1} → statement M
+bytes-spec =
+    tie.close
+    (tie.spec
+    slice-aggregate-put-four
+    put-four-requires
+    slice-aggregate-put-four-2
+    put-four-requires-2
+    returns)

@@ -1,0 +1,28 @@
+use mathlib.Core.Path.{_∙_, ap, _≡_}
+use Prim.Native.Nat.{ℕ}
+use mathlib.Core.List.{List}
+use Rattle.stretch.specs.Over.{over}
+use Rattle.sha512.proofs.Join.{laid-filled}
+use borrow.Author.Needs.{needs}
+use Rattle.sha512.proofs.parts.fill.Statement.{statement}
+use Rattle.sha512.proofs.parts.fill.Tie as tie
+
+slice-aggregate-copy : tie.Need-slice-aggregate-copy
+slice-aggregate-copy c = search needs
+
+copy-requires : tie.Need-copy-requires
+copy-requires c κs = search needs
+
+slice-aggregate-copy-at : tie.Need-slice-aggregate-copy-at
+slice-aggregate-copy-at c = search needs
+
+copy-at-requires : tie.Need-copy-at-requires
+copy-at-requires c κs = search needs
+
+returns : tie.Need-returns
+returns c = c .before .copy-at .ensures ∙ rw (c .before .before .before .before .copy .ensures) (laid-filled _ _ (c .before .before .before .before .before .before .before .before .pre))
+
+pub fill-spec : {M : Type 1} → statement M
+fill-spec =
+    tie.close
+    (tie.spec slice-aggregate-copy copy-requires slice-aggregate-copy-at copy-at-requires returns)

@@ -1,0 +1,5 @@
+pub mod Words
+pub mod Constants
+pub mod Block
+pub mod Message
+pub mod Parts

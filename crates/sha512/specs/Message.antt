@@ -1,0 +1,39 @@
+-- FIPS 180-4, sections 5.1.2, 5.2.2 and 6.4: padding, blocks, and the digest of a message of bytes.
+use Prim.Native.Nat.{ℕ, zero, suc, _+_, _-_, _*_, _/_, _%_}
+use mathlib.Core.List.{List, [], _∷_, _++_}
+use lib.ListN.{length, take, drop, replicate}
+use Rattle.sha512.specs.declared.Hash.{Hash}
+use Rattle.sha512.specs.Constants.{initial}
+use Rattle.sha512.specs.Block.{compressed}
+
+-- the n bytes of a number, the most significant first
+unfoldable pub bytesOf : ℕ → ℕ → List ℕ
+bytesOf zero x = []
+bytesOf (suc n) x = bytesOf n (x / 256) ++ (x % 256 ∷ [])
+
+-- what follows a message of n bytes: a bit 1, as few zeros as it takes, and the length in bits as a 128-bit number
+unfoldable pub padding : ℕ → List ℕ
+padding n = 0x80 ∷ (replicate ((239 - n % 128) % 128) 0 ++ bytesOf 16 (n * 8))
+
+-- the hash value after the first n blocks of m
+unfoldable pub absorbed : ℕ → Hash → List ℕ → Hash
+absorbed zero s m = s
+absorbed (suc n) s m = compressed (absorbed n s m) (take 128 (drop (n * 128) m))
+
+-- after all its whole blocks
+unfoldable pub hashed : Hash → List ℕ → Hash
+hashed s m = absorbed (length m / 128) s m
+
+-- the bytes behind the whole blocks
+unfoldable pub rest : List ℕ → List ℕ
+rest m = drop (length m / 128 * 128) m
+
+unfoldable pub fourWords : ℕ → ℕ → ℕ → ℕ → List ℕ
+fourWords a b c d = bytesOf 8 a ++ (bytesOf 8 b ++ (bytesOf 8 c ++ bytesOf 8 d))
+
+-- the 64 bytes of a hash value
+unfoldable pub hashBytes : Hash → List ℕ
+hashBytes s = fourWords (s .a) (s .b) (s .c) (s .d) ++ fourWords (s .e) (s .f) (s .g) (s .h)
+
+unfoldable pub sha512 : List ℕ → List ℕ
+sha512 m = hashBytes (hashed initial (m ++ padding (length m)))

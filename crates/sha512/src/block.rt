@@ -1,0 +1,128 @@
+// The block step: FIPS 180-4, section 6.4.2, with the whole schedule of 80 words.
+use super::Hash;
+use super::big_endian::read_word;
+use super::constants::round_constants;
+use super::words::big_sigma_0;
+use super::words::big_sigma_1;
+use super::words::choose;
+use super::words::majority;
+use super::words::small_sigma_0;
+use super::words::small_sigma_1;
+use std::num::wrapping_add_u64;
+ghost use mathlib.Core.Path.{_≡_};
+ghost use Prim.Native.Nat.{_+_, _≤_};
+ghost use lib.ListN.{length, take, getD};
+ghost use Rattle.sha512.specs.Constants.{K};
+ghost use Rattle.sha512.specs.Words.{_⊞_, σ₀, σ₁};
+ghost use Rattle.sha512.specs.Block.{blockWords, schedule, round, rounds, chained, compressed};
+ghost use Rattle.sha512.specs.Message.{hashed};
+
+// The block's sixteen words at the front of the schedule.
+fn load(w: &mut [u64; 80], block: &[u8])
+    requires { ⌜ length (now w) ≡ 80 ⌝ }
+    requires { ⌜ length (now block) ≡ 128 ⌝ }
+    ensures { λ _. ⌜ length (now (w .exit)) ≡ 80 ⌝ }
+    ensures { λ _. ⌜ take 16 (now (w .exit)) ≡ blockWords 16 (now (block .entry)) ⌝ }
+{
+    let mut t = 0;
+    while t < 16 {
+        w[t] = read_word(block, t * 8);
+        t += 1;
+    }
+}
+
+fn mixed(w14: u64, w9: u64, w1: u64, w0: u64) -> u64
+    ensures { λ r. ⌜ r ≡ σ₁ w14 ⊞ w9 ⊞ σ₀ w1 ⊞ w0 ⌝ }
+{
+    let left = wrapping_add_u64(small_sigma_1(w14), w9);
+    wrapping_add_u64(wrapping_add_u64(left, small_sigma_0(w1)), w0)
+}
+
+// The other 64 words.
+fn extend(w: &mut [u64; 80])
+    requires { ⌜ length (now w) ≡ 80 ⌝ }
+    ensures { λ _. ⌜ now (w .exit) ≡ schedule 64 (take 16 (now (w .entry))) ⌝ }
+{
+    let mut t = 0;
+    while t < 64 {
+        w[t + 16] = mixed(w[t + 14], w[t + 9], w[t + 1], w[t]);
+        t += 1;
+    }
+}
+
+fn one_round(s: Hash, k: u64, w: u64) -> Hash
+    ensures { λ r. ⌜ r ≡ round s k w ⌝ }
+{
+    let t0 = wrapping_add_u64(
+        wrapping_add_u64(s.h, big_sigma_1(s.e)),
+        choose(s.e, s.f, s.g),
+    );
+    let t1 = wrapping_add_u64(wrapping_add_u64(t0, k), w);
+    let t2 = wrapping_add_u64(big_sigma_0(s.a), majority(s.a, s.b, s.c));
+    Hash {
+        a: wrapping_add_u64(t1, t2),
+        b: s.a,
+        c: s.b,
+        d: s.c,
+        e: wrapping_add_u64(s.d, t1),
+        f: s.e,
+        g: s.f,
+        h: s.g,
+    }
+}
+
+fn all_rounds(start: Hash, w: &[u64; 80], k: &[u64; 80]) -> Hash
+    requires { ⌜ length (now w) ≡ 80 ⌝ }
+    requires { ⌜ now k ≡ K ⌝ }
+    ensures { λ r. ⌜ r ≡ rounds 80 (now (w .entry)) start ⌝ }
+{
+    let mut s = start;
+    let mut t = 0;
+    while t < 80 {
+        s = one_round(s, k[t], w[t]);
+        t += 1;
+    }
+    s
+}
+
+fn chain(s: Hash, t: Hash) -> Hash
+    ensures { λ r. ⌜ r ≡ chained s t ⌝ }
+{
+    Hash {
+        a: wrapping_add_u64(s.a, t.a),
+        b: wrapping_add_u64(s.b, t.b),
+        c: wrapping_add_u64(s.c, t.c),
+        d: wrapping_add_u64(s.d, t.d),
+        e: wrapping_add_u64(s.e, t.e),
+        f: wrapping_add_u64(s.f, t.f),
+        g: wrapping_add_u64(s.g, t.g),
+        h: wrapping_add_u64(s.h, t.h),
+    }
+}
+
+fn compress(s: Hash, block: &[u8], k: &[u64; 80]) -> Hash
+    requires { ⌜ length (now block) ≡ 128 ⌝ }
+    requires { ⌜ now k ≡ K ⌝ }
+    ensures { λ r. ⌜ r ≡ compressed s (now (block .entry)) ⌝ }
+{
+    let mut w = [0u64; 80];
+    load(&mut w, block);
+    extend(&mut w);
+    chain(s, all_rounds(s, &w, k))
+}
+
+// The hash value after every whole block of `bytes`, each taken where it lies.
+pub fn absorb(start: Hash, bytes: &[u8]) -> Hash
+    ensures { λ r. ⌜ r ≡ hashed start (now (bytes .entry)) ⌝ }
+{
+    let k = round_constants();
+    let count = bytes.len() / 128;
+    let mut s = start;
+    let mut i = 0;
+    while i < count {
+        let at = i * 128;
+        s = compress(s, &bytes[at..at + 128], &k);
+        i += 1;
+    }
+    s
+}

@@ -1,0 +1,42 @@
+# shellcheck shell=sh disable=SC2034
+# How a program for x86-64 is built and run on this machine with the kit's own tools. Sourced by run,
+# tests/run and bench/run, in the repository's root.
+
+kit=$(dirname "$(dirname "$(rt doc)")")
+tools=$kit/on/$(uname -m)/toolchain
+lib=$kit/toolchain/lib
+
+# compile SOURCE OBJECT [FLAG...]: only the freestanding headers are there, on every kind of machine.
+compile() {
+    compile_source=$1 compile_object=$2
+    shift 2
+    "$tools/bin/clang" --target=x86_64-unknown-linux-gnu -march=x86-64 -std=c11 -ffreestanding -nostdinc \
+        -isystem "$(gcc -print-file-name=include)" -Iinclude -Wall -Wextra -Werror -fPIE "$@" \
+        -c "$compile_source" -o "$compile_object"
+}
+
+# link PROGRAM FILE...: objects and archives, with the kit's C library.
+link() {
+    link_program=$1
+    shift
+    "$tools/bin/ld.lld" -pie -dynamic-linker /lib64/ld-linux-x86-64.so.2 -o "$link_program" \
+        "$lib/Scrt1.o" "$lib/crti.o" "$lib/crtbeginS.o" "$@" \
+        "$lib/libc.so.6" "$lib/libc_nonshared.a" "$lib/crtendS.o" "$lib/crtn.o"
+}
+
+# execute PROGRAM [WORD...]: runs a program linked against the kit's C library as rt runs one, by the
+# kit's loader, and by its emulator where the kit has one (on Arm).
+loader=$lib/ld-linux-x86-64.so.2
+emulator=$tools/bin/qemu-x86_64
+[ -x "$emulator" ] || emulator=''
+execute() {
+    ${emulator:+"$emulator"} "$loader" --library-path "$lib" "$@"
+}
+
+# Proves the C library and sets archive to its path. FV_ARCHIVE=FILE takes another archive instead,
+# to see that the tests notice a wrong one or to measure it.
+make_archive() {
+    archive=${FV_ARCHIVE:-target/staticlib/libfearnavult.a}
+    [ -z "${FV_ARCHIVE:-}" ] || return 0
+    said=$(rt staticlib fearnavult 2>&1) || { printf '%s\n' "$said" >&2; return 1; }
+}

@@ -1,0 +1,74 @@
+"""What each call answers, said a second time: plainly, from the rules, whatever it costs.
+
+The digests are hashlib's and base64's. A refusal is its number and its value; (0, 0) stands for none.
+"""
+import base64
+import hashlib
+
+REFERENCE_LIMIT = 1_000_000_000
+IDENTIFIER_LENGTH = 41
+DIGEST_LENGTH = 32
+RESIDUES = frozenset(b"ABCDEFGHIJKLMNOPQRSTUVWXYZ")
+BASE64URL = frozenset(b"ABCDEFGHIJKLMNOPQRSTUVWXYZabcdefghijklmnopqrstuvwxyz0123456789-_")
+
+ACCEPTED = (0, 0)
+
+
+def first_outside(alphabet, text):
+    """The offset of the first byte of text that is not in the alphabet, or None."""
+    return next((i for i, byte in enumerate(text) if byte not in alphabet), None)
+
+
+def digest(message):
+    """sha512t24u: the first 24 bytes of SHA-512, in base64url."""
+    return base64.urlsafe_b64encode(hashlib.sha512(message).digest()[:24])
+
+
+def no_room(room, place, needed):
+    """Whether a buffer of room bytes has fewer than needed from place on. Python's numbers do not wrap."""
+    return place + needed > room
+
+
+def written(out, place, text):
+    """The buffer after text has been written from place on."""
+    return out[:place] + text + out[place + len(text):]
+
+
+def fed(total, part):
+    """A running digest that has taken total bytes is given a part."""
+    if total > REFERENCE_LIMIT or total + len(part) > REFERENCE_LIMIT:
+        return 1, 0
+    foreign = first_outside(RESIDUES, part)
+    if foreign is not None:
+        return 4, foreign
+    return ACCEPTED
+
+
+def finished(total, room, place):
+    """A running digest that has taken total bytes writes its identifier into a buffer of room bytes."""
+    if total > REFERENCE_LIMIT:
+        return 1, 0
+    if no_room(room, place, IDENTIFIER_LENGTH):
+        return 6, IDENTIFIER_LENGTH
+    return ACCEPTED
+
+
+def sequence_identifier(reference, out, place):
+    """The identifier of a whole reference: refusal, value, length, and the buffer afterwards."""
+    refusal, value = fed(0, reference)
+    if refusal == 0:
+        refusal, value = finished(len(reference), len(out), place)
+    if refusal != 0:
+        return refusal, value, 0, out
+    text = b"ga4gh:SQ." + digest(reference)
+    return 0, 0, len(text), written(out, place, text)
+
+
+def digest_text(text):
+    """A digest that a caller gives."""
+    if len(text) != DIGEST_LENGTH:
+        return 7, DIGEST_LENGTH
+    foreign = first_outside(BASE64URL, text)
+    if foreign is not None:
+        return 7, foreign
+    return ACCEPTED
