@@ -4,7 +4,9 @@ use mathlib.Core.Bool.{Bool, true, false, not, cond}
 use mathlib.Core.List.{List, [], _∷_}
 use lib.Dec.{leb, ltb, eqb}
 use lib.ListN.{length}
-use Rattle.refusal.specs.Verdict.{Ground, ground}
+use Rattle.refusal.specs.Verdict.{Ground, ground, verdict, tell}
+use Rattle.refusal.specs.declared.Outcome.{Outcome}
+use Rattle.refusal.specs.declared.Outcome.the-variants.{Accepted, Refused}
 use Rattle.stretch.specs.Ascii.{ascii}
 
 -- a residue is a byte from A to Z
@@ -43,3 +45,7 @@ digestTextGrounds d =
     ground (not (eqb (length d) 32)) 7 32
     ∷ ground (ltb (firstOutside base64url d) (length d)) 7 (firstOutside base64url d)
     ∷ []
+
+-- what the check of a digest text answers
+abbrev pub digestTextAnswer : List ℕ → Outcome
+digestTextAnswer d = tell Refused (verdict (digestTextGrounds d)) Accepted

@@ -2,8 +2,7 @@
 use refusal::Outcome;
 use refusal::refuse;
 ghost use mathlib.Core.Path.{_≡_};
-ghost use Rattle.refusal.specs.Verdict.{verdict, tell};
-ghost use Rattle.letters.specs.Letters.{base64url, firstOutside, digestTextGrounds};
+ghost use Rattle.letters.specs.Letters.{base64url, firstOutside, digestTextAnswer};
 
 fn is_base64url(c: u8) -> bool
     ensures { λ r. ⌜ r ≡ base64url c ⌝ }
@@ -36,7 +35,7 @@ fn first_outside(s: &[u8]) -> usize
 // Accepted is a text of 32 base64url characters; any other is refused under 7, with 32 where its
 // length is another, else with the offset of its first bad character.
 pub fn check_digest_text(text: &[u8]) -> Outcome
-    ensures { λ r. ⌜ r ≡ tell Outcome.Refused (verdict (digestTextGrounds (now (text .entry)))) Outcome.Accepted ⌝ }
+    ensures { λ r. ⌜ r ≡ digestTextAnswer (now (text .entry)) ⌝ }
 {
     if text.len() != 32 {
         return Outcome::Refused(refuse(refusal::BAD_DIGEST_TEXT, 32));

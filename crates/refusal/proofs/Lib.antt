@@ -1,3 +1,3 @@
-pub mod Room
+pub mod Sum
 pub mod Unique
 pub mod Verdict

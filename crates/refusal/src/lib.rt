@@ -39,13 +39,12 @@ pub fn refuse(number: u64, value: u64) -> Refusal
     Refusal { number, value }
 }
 
-// Whether a buffer of `room` bytes is too short for `length` bytes from `place` on, or ends before
-// `place`. No sum is taken, so none can wrap.
-pub fn lacks_room(room: u64, place: u64, length: u64) -> bool
-    ensures { λ r. ⌜ r ≡ ltb room (place + length) ⌝ }
+// Whether a + b is above the limit. No sum is taken, so none can wrap.
+pub fn sum_exceeds(a: u64, b: u64, limit: u64) -> bool
+    ensures { λ r. ⌜ r ≡ ltb limit (a + b) ⌝ }
 {
-    if room < place {
+    if limit < a {
         return true;
     }
-    room - place < length
+    limit - a < b
 }

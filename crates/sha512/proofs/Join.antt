@@ -95,3 +95,7 @@ fedAll-is (p ∷ parts) r m f h =
 -- cut anywhere, a message has one digest
 pub parts-join : (parts : List (List ℕ)) → length (joined parts) < 2 ^ 64 → finished (fedAll begun parts) ≡ sha512 (joined parts)
 parts-join parts h = finished-is (fedAll begun parts) (joined parts) (fedAll-is parts begun [] fed-begun h)
+
+-- a message that comes whole
+pub whole : (m : List ℕ) → length m < 2 ^ 64 → finished (fed begun m) ≡ sha512 m
+whole m h = finished-is (fed begun m) m (fed-on begun [] m fed-begun h)

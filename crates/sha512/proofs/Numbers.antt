@@ -47,10 +47,13 @@ pub put-words : (l : List ℕ) (p a b c d : ℕ) → p ≤ length l
     → over (over (over (over l p (bytesOf 8 a)) (p + 8) (bytesOf 8 b)) (p + 16) (bytesOf 8 c)) (p + 24) (bytesOf 8 d) ≡ over l p (fourWords a b c d)
 unfolding fourWords
 put-words l p a b c d h =
-    rw (over-next l p (p + 8) (bytesOf 8 a) (bytesOf 8 b) h (simp length-bytesOf),
-        over-next l p (p + 16) (bytesOf 8 a ++ bytesOf 8 b) (bytesOf 8 c) h (simp (length-append, length-bytesOf)),
-        over-next l p (p + 24) ((bytesOf 8 a ++ bytesOf 8 b) ++ bytesOf 8 c) (bytesOf 8 d) h (simp (length-append, length-bytesOf)),
-        append-assoc, append-assoc)
+    rw (
+      over-next l p (p + 8) (bytesOf 8 a) (bytesOf 8 b) h (simp length-bytesOf),
+      over-next l p (p + 16) (bytesOf 8 a ++ bytesOf 8 b) (bytesOf 8 c) h (simp (length-append, length-bytesOf)),
+      over-next l p (p + 24) ((bytesOf 8 a ++ bytesOf 8 b) ++ bytesOf 8 c) (bytesOf 8 d) h (simp (length-append, length-bytesOf)),
+      append-assoc,
+      append-assoc,
+    )
 
 pub length-fourWords : (a b c d : ℕ) → length (fourWords a b c d) ≡ 32
 unfolding fourWords

@@ -28,7 +28,7 @@ over-zeros : (h t : List ℕ) (n k p : ℕ) → n ≡ length h + (k + length t) 
 over-zeros h t n k p e q =
     let d : n - length h ≡ k + length t = omega arith in
     let f : over (replicate n 0) 0 h ≡ (h ++ replicate k 0) ++ replicate (length t) 0 =
-      over-front (replicate n 0) h ∙ rw (drop-replicate n (length h) 0, d, ← replicate-append-replicate {A = ℕ} k (length t) 0, append-assoc) in
+    over-front (replicate n 0) h ∙ rw (drop-replicate n (length h) 0, d, ← replicate-append-replicate {A = ℕ} k (length t) 0, append-assoc) in
     rw (f, over-end (h ++ replicate k 0) (replicate (length t) 0) t p (simp (length-append, length-replicate) q) (length-replicate (length t) 0), append-assoc)
 
 pub length-padding : (n : ℕ) → length (padding n) ≡ 17 + (239 - n % 128) % 128

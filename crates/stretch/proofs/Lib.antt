@@ -1,3 +1,4 @@
+pub mod Cases
 pub mod Over
 pub mod Same
 pub mod Tail

@@ -1,0 +1,3 @@
+pub mod Encoding
+pub mod Examples
+pub mod Promises

@@ -1,0 +1,58 @@
+-- What the calls on sequence digests promise: the grounds of each in document 01's order, the answer, and what is left in what was lent.
+use Prim.Native.Nat.{ℕ, _+_}
+use mathlib.Core.Path.{_≡_}
+use mathlib.Core.List.{List, [], _∷_, _++_}
+use lib.Dec.{ltb}
+use lib.ListN.{length}
+use Rattle.refusal.specs.Limits.{referenceLimit}
+use Rattle.refusal.specs.Verdict.{Ground, ground, Verdict, verdict, tell, leave, outputTooShort}
+use Rattle.refusal.specs.declared.Outcome.{Outcome}
+use Rattle.refusal.specs.declared.Outcome.the-variants.{Accepted, Refused}
+use Rattle.refusal.specs.declared.Written.{Written}
+use Rattle.refusal.specs.declared.Written.the-variants.{Bytes, Refused as Unwritten}
+use Rattle.letters.specs.Letters.{foreign}
+use Rattle.stretch.specs.Ascii.{ascii}
+use Rattle.stretch.specs.Over.{over}
+use Rattle.sha512.specs.declared.Running.{Running}
+use Rattle.sha512.specs.Parts.{fed, finished}
+use Rattle.digest.specs.Identifier.{digestText, sequenceIdentifier}
+use Rattle.digest.specs.declared.Fed.{Fed}
+
+-- a whole reference's identifier: 1, 4, 6
+abbrev pub wholeGrounds : List ℕ → ℕ → ℕ → List Ground
+wholeGrounds reference room place =
+    ground (ltb referenceLimit (length reference)) 1 0
+    ∷ ground (ltb (foreign reference) (length reference)) 4 (foreign reference)
+    ∷ outputTooShort room place 41
+    ∷ []
+
+-- a part for the running digest: 1, 4
+abbrev pub partGrounds : ℕ → List ℕ → List Ground
+partGrounds total part =
+    ground (ltb referenceLimit (total + length part)) 1 0
+    ∷ ground (ltb (foreign part) (length part)) 4 (foreign part)
+    ∷ []
+
+-- its finish: 1 for a lent total over the limit, then 6
+abbrev pub finishGrounds : ℕ → ℕ → ℕ → List Ground
+finishGrounds total room place =
+    ground (ltb referenceLimit total) 1 0 ∷ outputTooShort room place 41 ∷ []
+
+-- 41 bytes are written from the place on, or nothing
+pub record Writes (v : Verdict) (identifier out : List ℕ) (place : ℕ) (answer : Written) (left : List ℕ) : Type 0 where
+  pub answers : answer ≡ tell Unwritten v (Bytes 41)
+  pub leaves : left ≡ leave v out (over out place identifier)
+
+abbrev pub Identifies : List ℕ → List ℕ → ℕ → Written → List ℕ → Type 0
+Identifies reference out place = Writes (verdict (wholeGrounds reference (length out) place)) (sequenceIdentifier reference) out place
+
+abbrev pub Finishes : Running → List ℕ → ℕ → Written → List ℕ → Type 0
+Finishes state out place = Writes (verdict (finishGrounds (state .total) (length out) place)) (ascii "ga4gh:SQ." ++ digestText (finished state)) out place
+
+-- the state goes on with the part, or stays as it was
+abbrev pub feeding : Running → List ℕ → Fed
+feeding state part =
+    record {
+      state = leave (verdict (partGrounds (state .total) part)) state (fed state part);
+      outcome = tell Refused (verdict (partGrounds (state .total) part)) Accepted;
+    }

@@ -1,0 +1,18 @@
+// Sequence digests: sha512t24u, the identifier of a whole reference, and the running digest of one
+// that comes in parts.
+mod base64;
+mod identifier;
+
+pub use base64::group_of;
+pub use identifier::begin;
+pub use identifier::feed;
+pub use identifier::finish;
+pub use identifier::sequence_identifier;
+use refusal::Outcome;
+use sha512::Running;
+
+// A running digest after a part, and whether it took the part.
+pub struct Fed {
+    pub state: Running,
+    pub outcome: Outcome,
+}

@@ -1,0 +1,17 @@
+-- A sum held against a limit without being taken.
+use Prim.Native.Nat.{ℕ, _+_, _-_, _<_, _≤_}
+use native.Mathlib.Omega.{arith}
+use mathlib.Core.Path.{_≡_, refl, sym}
+use mathlib.Core.Bool.{Bool, true, false}
+use lib.Dec.{ltb}
+use borrow.Author.Tests.{ltb-true, ltb-false, lt-ltb, le-ltb}
+
+pub exceeds-first : (a b limit : ℕ) → limit < a → ltb limit (a + b) ≡ true
+exceeds-first a b limit h = lt-ltb limit (a + b) (omega arith)
+
+told : (a b limit : ℕ) (t : Bool) → a ≤ limit → ltb (limit - a) b ≡ t → t ≡ ltb limit (a + b)
+told a b limit true h e = sym (lt-ltb limit (a + b) (omega (arith, ltb-true (limit - a) b e)))
+told a b limit false h e = sym (le-ltb limit (a + b) (omega (arith, ltb-false (limit - a) b e)))
+
+pub exceeds-rest : (a b limit : ℕ) → a ≤ limit → ltb (limit - a) b ≡ ltb limit (a + b)
+exceeds-rest a b limit h = told a b limit (ltb (limit - a) b) h refl
