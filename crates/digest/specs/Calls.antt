@@ -49,7 +49,11 @@ Identifies reference out place = Writes (verdict (wholeGrounds reference (length
 abbrev pub Finishes : Running → List ℕ → ℕ → Written → List ℕ → Type 0
 Finishes state out place = Writes (verdict (finishGrounds (state .total) (length out) place)) (ascii "ga4gh:SQ." ++ digestText (finished state)) out place
 
--- the state goes on with the part, or stays as it was
+-- a refused part leaves the state as it was
+abbrev pub unfed : Running → ℕ → ℕ → Fed
+unfed state number value = record { state = state; outcome = Refused (record { number = number; value = value }) }
+
+-- the state goes on with the part, or stays
 abbrev pub feeding : Running → List ℕ → Fed
 feeding state part =
     record {

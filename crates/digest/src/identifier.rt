@@ -1,28 +1,24 @@
-// Sequence identifiers: of a whole reference, and of one that comes in parts.
-use super::Fed;
+// The identifier of a whole reference.
 use super::base64::write_digest_text;
 use letters::first_foreign;
 use refusal::FOREIGN_BYTE;
 use refusal::OUTPUT_TOO_SHORT;
 use refusal::OVER_LIMIT;
-use refusal::Outcome;
 use refusal::REFERENCE_LIMIT;
 use refusal::Written;
 use refusal::refuse;
 use refusal::sum_exceeds;
-use sha512::Running;
 use stretch::copy;
 ghost use mathlib.Core.Path.{_≡_};
 ghost use mathlib.Core.List.{_++_};
 ghost use Prim.Native.Nat.{_+_, _≤_};
 ghost use lib.ListN.{length};
-ghost use Rattle.stretch.specs.Ascii.{ascii};
 ghost use Rattle.stretch.specs.Over.{over};
-ghost use Rattle.sha512.specs.Parts.{begun};
 ghost use Rattle.digest.specs.Identifier.{digestText};
-ghost use Rattle.digest.specs.Calls.{Identifies, Finishes, feeding};
+ghost use Rattle.digest.specs.Calls.{Identifies};
 
-const IDENTIFIER_LENGTH: u64 = 41;
+// The prefix and 32 characters.
+pub const IDENTIFIER_LENGTH: u64 = 41;
 
 // Lays a prefix and the digest's 32 characters over the front of `out`.
 pub fn write_identifier(out: &mut [u8], prefix: &[u8], digest: &[u8])
@@ -49,53 +45,6 @@ pub fn sequence_identifier(reference: &[u8], out: &mut [u8], place: u64) -> Writ
         return Written::Refused(refuse(OUTPUT_TOO_SHORT, IDENTIFIER_LENGTH));
     }
     let digest = sha512::finish(sha512::feed(sha512::begin(), reference));
-    let from = place as usize;
-    write_identifier(&mut out[from..], b"ga4gh:SQ.", &digest);
-    Written::Bytes(IDENTIFIER_LENGTH)
-}
-
-// A running digest of nothing yet.
-pub fn begin() -> Running
-    ensures { λ r. ⌜ r ≡ begun ⌝ }
-{
-    sha512::begin()
-}
-
-// Goes on with one more part. A refused part leaves the state as it was.
-pub fn feed(state: Running, part: &[u8]) -> Fed
-    ensures { λ r. ⌜ r ≡ feeding state (now (part .entry)) ⌝ }
-{
-    let total = state.total;
-    if sum_exceeds(total, part.len() as u64, REFERENCE_LIMIT) {
-        return Fed {
-            state,
-            outcome: Outcome::Refused(refuse(OVER_LIMIT, 0)),
-        };
-    }
-    let foreign = first_foreign(part);
-    if foreign < part.len() {
-        return Fed {
-            state,
-            outcome: Outcome::Refused(refuse(FOREIGN_BYTE, foreign as u64)),
-        };
-    }
-    Fed {
-        state: sha512::feed(state, part),
-        outcome: Outcome::Accepted,
-    }
-}
-
-// Writes the identifier of all the parts into `out` from `place` on. The state stays the caller's.
-pub fn finish(state: Running, out: &mut [u8], place: u64) -> Written
-    ensures { λ r. ⌜ Finishes state (now (out .entry)) place r (now (out .exit)) ⌝ }
-{
-    if REFERENCE_LIMIT < state.total {
-        return Written::Refused(refuse(OVER_LIMIT, 0));
-    }
-    if sum_exceeds(place, IDENTIFIER_LENGTH, out.len() as u64) {
-        return Written::Refused(refuse(OUTPUT_TOO_SHORT, IDENTIFIER_LENGTH));
-    }
-    let digest = sha512::finish(state);
     let from = place as usize;
     write_identifier(&mut out[from..], b"ga4gh:SQ.", &digest);
     Written::Bytes(IDENTIFIER_LENGTH)

@@ -2,13 +2,14 @@
 // that comes in parts.
 mod base64;
 mod identifier;
+mod running;
 
 pub use base64::group_of;
-pub use identifier::begin;
-pub use identifier::feed;
-pub use identifier::finish;
 pub use identifier::sequence_identifier;
 use refusal::Outcome;
+pub use running::begin;
+pub use running::feed;
+pub use running::finish;
 use sha512::Running;
 
 // A running digest after a part, and whether it took the part.

@@ -2,13 +2,13 @@
 use super::Hash;
 use super::big_endian::read_word;
 use super::constants::round_constants;
+use super::words::add;
 use super::words::big_sigma_0;
 use super::words::big_sigma_1;
 use super::words::choose;
 use super::words::majority;
 use super::words::small_sigma_0;
 use super::words::small_sigma_1;
-use std::num::wrapping_add_u64;
 ghost use mathlib.Core.Path.{_≡_};
 ghost use Prim.Native.Nat.{_+_, _≤_};
 ghost use lib.ListN.{length, take, getD};
@@ -34,8 +34,8 @@ fn load(w: &mut [u64; 80], block: &[u8])
 fn mixed(w14: u64, w9: u64, w1: u64, w0: u64) -> u64
     ensures { λ r. ⌜ r ≡ σ₁ w14 ⊞ w9 ⊞ σ₀ w1 ⊞ w0 ⌝ }
 {
-    let left = wrapping_add_u64(small_sigma_1(w14), w9);
-    wrapping_add_u64(wrapping_add_u64(left, small_sigma_0(w1)), w0)
+    let left = add(small_sigma_1(w14), w9);
+    add(add(left, small_sigma_0(w1)), w0)
 }
 
 // The other 64 words.
@@ -53,18 +53,15 @@ fn extend(w: &mut [u64; 80])
 fn one_round(s: Hash, k: u64, w: u64) -> Hash
     ensures { λ r. ⌜ r ≡ round s k w ⌝ }
 {
-    let t0 = wrapping_add_u64(
-        wrapping_add_u64(s.h, big_sigma_1(s.e)),
-        choose(s.e, s.f, s.g),
-    );
-    let t1 = wrapping_add_u64(wrapping_add_u64(t0, k), w);
-    let t2 = wrapping_add_u64(big_sigma_0(s.a), majority(s.a, s.b, s.c));
+    let t0 = add(add(s.h, big_sigma_1(s.e)), choose(s.e, s.f, s.g));
+    let t1 = add(add(t0, k), w);
+    let t2 = add(big_sigma_0(s.a), majority(s.a, s.b, s.c));
     Hash {
-        a: wrapping_add_u64(t1, t2),
+        a: add(t1, t2),
         b: s.a,
         c: s.b,
         d: s.c,
-        e: wrapping_add_u64(s.d, t1),
+        e: add(s.d, t1),
         f: s.e,
         g: s.f,
         h: s.g,
@@ -89,14 +86,14 @@ fn chain(s: Hash, t: Hash) -> Hash
     ensures { λ r. ⌜ r ≡ chained s t ⌝ }
 {
     Hash {
-        a: wrapping_add_u64(s.a, t.a),
-        b: wrapping_add_u64(s.b, t.b),
-        c: wrapping_add_u64(s.c, t.c),
-        d: wrapping_add_u64(s.d, t.d),
-        e: wrapping_add_u64(s.e, t.e),
-        f: wrapping_add_u64(s.f, t.f),
-        g: wrapping_add_u64(s.g, t.g),
-        h: wrapping_add_u64(s.h, t.h),
+        a: add(s.a, t.a),
+        b: add(s.b, t.b),
+        c: add(s.c, t.c),
+        d: add(s.d, t.d),
+        e: add(s.e, t.e),
+        f: add(s.f, t.f),
+        g: add(s.g, t.g),
+        h: add(s.h, t.h),
     }
 }
 

@@ -1,6 +1,13 @@
-// The six functions of FIPS 180-4, section 4.1.3.
+// FIPS 180-4, sections 3.2 and 4.1.3: addition of words and the six functions.
+use std::num::wrapping_add_u64;
 ghost use mathlib.Core.Path.{_≡_};
-ghost use Rattle.sha512.specs.Words.{Ch, Maj, Σ₀, Σ₁, σ₀, σ₁};
+ghost use Rattle.sha512.specs.Words.{_⊞_, Ch, Maj, Σ₀, Σ₁, σ₀, σ₁};
+
+pub fn add(x: u64, y: u64) -> u64
+    ensures { λ r. ⌜ r ≡ x ⊞ y ⌝ }
+{
+    wrapping_add_u64(x, y)
+}
 
 pub fn choose(x: u64, y: u64, z: u64) -> u64
     ensures { λ r. ⌜ r ≡ Ch x y z ⌝ }

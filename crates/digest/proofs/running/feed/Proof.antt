@@ -1,26 +1,26 @@
 use mathlib.Core.Path.{sym, _∙_}
 use borrow.Author.Tests.{lt-ltb, le-ltb}
 use borrow.Author.Needs.{needs}
-use Rattle.digest.proofs.identifier.feed.Statement.{statement}
-use Rattle.digest.proofs.identifier.feed.Tie as tie
+use Rattle.digest.proofs.running.feed.Statement.{statement}
+use Rattle.digest.proofs.running.feed.Tie as tie
 
 sum-exceeds-requires : tie.Need-sum-exceeds-requires
 sum-exceeds-requires c κs = search needs
 
-refuse-requires : tie.Need-refuse-requires
-refuse-requires c κs = search needs
+refused-part-requires : tie.Need-refused-part-requires
+refused-part-requires c κs = search needs
 
 returns : tie.Need-returns
-returns c = rw (c .refuse .ensures) (simp (sym (c .before .before .sum-exceeds .ensures) ∙ c .before .if1 .taken))
+returns c = rw (c .refused-part .ensures) (simp (sym (c .before .before .sum-exceeds .ensures) ∙ c .before .if1 .taken))
 
 first-foreign-requires : tie.Need-first-foreign-requires
 first-foreign-requires c κs = search needs
 
-refuse-requires-2 : tie.Need-refuse-requires-2
-refuse-requires-2 c κs = search needs
+refused-part-requires-2 : tie.Need-refused-part-requires-2
+refused-part-requires-2 c κs = search needs
 
 returns-2 : tie.Need-returns-2
-returns-2 c = rw (c .refuse2 .ensures) (simp (sym (c .before .before .before .before .sum-exceeds .ensures) ∙ c .before .before .before .if1 .left, ← c .before .before .first-foreign .ensures, lt-ltb _ _ (c .before .if2 .taken)))
+returns-2 c = rw (c .refused-part2 .ensures) (simp (sym (c .before .before .before .before .sum-exceeds .ensures) ∙ c .before .before .before .if1 .left, ← c .before .before .first-foreign .ensures, lt-ltb _ _ (c .before .if2 .taken)))
 
 feed-requires : tie.Need-feed-requires
 feed-requires c κs = search needs
@@ -33,10 +33,10 @@ feed-spec =
     tie.close
     (tie.spec
     sum-exceeds-requires
-    refuse-requires
+    refused-part-requires
     returns
     first-foreign-requires
-    refuse-requires-2
+    refused-part-requires-2
     returns-2
     feed-requires
     returns-3)

@@ -11,8 +11,8 @@ use lib.ListN.{length}
 use Rattle.stretch.proofs.Over.{over-tail-front}
 use Rattle.digest.proofs.Promises.{writes-nothing, writes-all}
 use borrow.Author.Needs.{needs}
-use Rattle.digest.proofs.identifier.finish.Statement.{statement}
-use Rattle.digest.proofs.identifier.finish.Tie as tie
+use Rattle.digest.proofs.running.finish.Statement.{statement}
+use Rattle.digest.proofs.running.finish.Tie as tie
 
 room : (c : tie.Else2) → c .before .before .before .before .before .args .place + 41 ≤ length (c .before .before .before .before .before .args .out .now)
 room c = ltb-false _ _ (sym (c .before .sum-exceeds .ensures) ∙ c .if2 .left)

@@ -1,0 +1,12 @@
+-- Each export has one answer and leaves one content of the lent buffer.
+use Prim.Native.Nat.{ℕ}
+use mathlib.Core.Path.{_≡_, _∙_, sym, ap}
+use mathlib.Core.List.{List}
+use Rattle.digest.proofs.Promises.{identifies-once}
+use Rattle.fearnavult.specs.declared.FvWritten.{FvWritten}
+use Rattle.fearnavult.specs.Flat.{flatWritten, FlatIdentifies}
+
+pub flat-identifies-once : (reference out : List ℕ) (place : ℕ) (a₁ a₂ : FvWritten) (l₁ l₂ : List ℕ) → FlatIdentifies reference out place a₁ l₁ → FlatIdentifies reference out place a₂ l₂ → (a₁ ≡ a₂) × (l₁ ≡ l₂)
+flat-identifies-once reference out place a₁ a₂ l₁ l₂ p q =
+    let same = identifies-once out place (p .written) (q .written) l₁ l₂ reference (p .identifies) (q .identifies) in
+    (p .flat ∙ ap flatWritten (same .0) ∙ sym (q .flat), same .1)
