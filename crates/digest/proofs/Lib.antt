@@ -1,3 +1,3 @@
+pub mod Cut
 pub mod Encoding
-pub mod Examples
 pub mod Promises

@@ -1,6 +1,6 @@
 -- The promises of the calls, met and unique.
 use Prim.Native.Nat.{ℕ}
-use mathlib.Core.Path.{_≡_, refl, ap, sym, _∙_}
+use mathlib.Core.Path.{_≡_}
 use mathlib.Core.List.{List}
 use Rattle.refusal.specs.declared.Refusal.{Refusal}
 use Rattle.refusal.specs.declared.Written.{Written}
@@ -9,6 +9,7 @@ use Rattle.refusal.specs.Verdict.{Verdict, accepted, refused}
 use Rattle.refusal.proofs.Unique.{one-answer}
 use Rattle.stretch.specs.Over.{over}
 use Rattle.sha512.specs.declared.Running.{Running}
+use Rattle.sha512.specs.Parts.{begun}
 use Rattle.digest.specs.declared.Fed.{Fed}
 use Rattle.digest.specs.Calls.{Writes, Identifies, Finishes, feeding}
 
@@ -31,3 +32,6 @@ module _ (out : List ℕ) (place : ℕ) (a₁ a₂ : Written) (l₁ l₂ : List 
 
 pub feeds-once : (state : Running) (part : List ℕ) (f₁ f₂ : Fed) → f₁ ≡ feeding state part → f₂ ≡ feeding state part → f₁ ≡ f₂
 feeds-once state part f₁ f₂ p q = one-answer p q
+
+pub begins-once : (s₁ s₂ : Running) → s₁ ≡ begun → s₂ ≡ begun → s₁ ≡ s₂
+begins-once s₁ s₂ p q = one-answer p q

@@ -6,13 +6,12 @@ use lib.Dec.{ltb}
 use lib.ListN.{length}
 use Rattle.refusal.specs.Limits.{referenceLimit}
 use Rattle.refusal.specs.Verdict.{Ground, ground, Verdict, verdict, tell, leave, outputTooShort}
-use Rattle.refusal.specs.declared.Outcome.{Outcome}
 use Rattle.refusal.specs.declared.Outcome.the-variants.{Accepted, Refused}
 use Rattle.refusal.specs.declared.Written.{Written}
 use Rattle.refusal.specs.declared.Written.the-variants.{Bytes, Refused as Unwritten}
-use Rattle.letters.specs.Letters.{foreign}
 use Rattle.stretch.specs.Ascii.{ascii}
 use Rattle.stretch.specs.Over.{over}
+use Rattle.letters.specs.Letters.{foreign}
 use Rattle.sha512.specs.declared.Running.{Running}
 use Rattle.sha512.specs.Parts.{fed, finished}
 use Rattle.digest.specs.Identifier.{digestText, sequenceIdentifier}
@@ -60,3 +59,13 @@ feeding state part =
       state = leave (verdict (partGrounds (state .total) part)) state (fed state part);
       outcome = tell Refused (verdict (partGrounds (state .total) part)) Accepted;
     }
+
+-- the state after several parts, one after another
+abbrev pub feedingAll : Running → List (List ℕ) → Running
+feedingAll state [] = state
+feedingAll state (part ∷ parts) = feedingAll (feeding state part .state) parts
+
+-- none of them was refused
+abbrev pub AllTaken : Running → List (List ℕ) → Type 0
+AllTaken state [] = Unit {0}
+AllTaken state (part ∷ parts) = (feeding state part .outcome ≡ Accepted) × AllTaken (feeding state part .state) parts

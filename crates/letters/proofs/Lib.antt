@@ -1,3 +1,4 @@
 pub mod Class
 pub mod Outside
 pub mod Ranges
+pub mod Promises

@@ -8,8 +8,8 @@ use mathlib.Core.Bool.{Bool, true, false}
 use mathlib.Core.List.{List, [], _∷_, _++_}
 use lib.ListN.{length, getD, take, drop, length-drop, take-append-drop, drop-of-length-le}
 use lib.Seq.{drop-cons, drop-drop, length-take-le}
-use Rattle.letters.specs.Letters.{residue, every, firstOutside, foreign}
 use Rattle.stretch.proofs.Cases.{by-cases}
+use Rattle.letters.specs.Letters.{residue, every, firstOutside, foreign}
 
 module _ (p : ℕ → Bool) where
   pub firstOutside-le : (s : List ℕ) → firstOutside p s ≤ length s

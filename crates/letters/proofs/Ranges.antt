@@ -3,8 +3,8 @@ use Prim.Native.Nat.{ℕ, _<_}
 use mathlib.Core.Path.{_≡_, refl}
 use mathlib.Core.Bool.{Bool, true, false, cond, Bool·beq}
 use lib.Dec.{ltb, leb, eqb}
-use Rattle.letters.specs.Letters.{base64url}
 use Rattle.stretch.proofs.Cases.{below, below-at}
+use Rattle.letters.specs.Letters.{base64url}
 
 unfoldable pub ranged : ℕ → Bool
 ranged c = cond (ltb c 48) (eqb c 45) (cond (ltb c 65) (leb c 57) (cond (ltb c 97) (cond (leb c 90) true (eqb c 95)) (leb c 122)))

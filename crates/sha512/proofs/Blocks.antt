@@ -1,13 +1,12 @@
 -- Whole blocks and what lies behind them, over a message that goes on.
-use Prim.Native.Nat.{ℕ, zero, suc, _+_, _-_, _*_, _/_, _%_, _<_, _≤_}
-use mathlib.Core.Path.{_≡_, refl, sym, ap, _∙_}
-use mathlib.Core.List.{List, [], _∷_, _++_}
+use Prim.Native.Nat.{ℕ, zero, suc, _+_, _*_, _/_, _%_, _<_, _≤_}
 use native.Mathlib.Omega.{arith}
 use native.Mathlib.Nat.{add-zero, add-suc, add-mul}
-use lib.ListN.{length, take, drop, length-append, length-drop, drop-of-length-le}
+use mathlib.Core.Path.{_≡_, refl, sym, ap}
+use mathlib.Core.List.{List, [], _++_}
+use lib.ListN.{length, drop, length-append, length-drop, drop-of-length-le}
 use lib.Seq.{take-append-le, drop-append-le, drop-drop}
 use Rattle.sha512.specs.declared.Hash.{Hash}
-use Rattle.sha512.specs.Block.{compressed}
 use Rattle.sha512.specs.Message.{absorbed, hashed, rest}
 
 -- the first n blocks don't see what follows them

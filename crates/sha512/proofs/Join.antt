@@ -1,11 +1,11 @@
 -- Parts fed one after another and finished are the digest of their join.
-use Prim.Native.Nat.{ℕ, zero, suc, _+_, _-_, _*_, _/_, _%_, _^_, _<_, _≤_}
+use Prim.Native.Nat.{ℕ, _+_, _-_, _%_, _^_, _<_, _≤_}
+use native.Mathlib.Omega.{arith}
+use native.Mathlib.Nat.{zero-add}
 use mathlib.Core.Path.{_≡_, refl, sym, ap, _∙_}
 use mathlib.Core.List.{List, [], _∷_, _++_, append-assoc, append-nil}
-use native.Mathlib.Omega.{arith}
 use lib.ListN.{length, take, drop, replicate, length-append, take-append-drop}
 use lib.Seq.{take-append-seam}
-use native.Mathlib.Nat.{zero-add}
 use Rattle.stretch.specs.Over.{over}
 use Rattle.stretch.proofs.Over.{over-front, over-over}
 use Rattle.sha512.specs.declared.Hash.{Hash}

@@ -3,4 +3,3 @@ pub mod Step
 pub mod Blocks
 pub mod Padding
 pub mod Join
-pub mod Examples

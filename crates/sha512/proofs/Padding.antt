@@ -1,15 +1,12 @@
 -- The padding, laid over zeros.
-use Prim.Native.Nat.{ℕ, zero, suc, _+_, _-_, _*_, _/_, _%_, _<_, _≤_}
-use mathlib.Core.Path.{_≡_, refl, sym, ap, _∙_}
-use mathlib.Core.List.{List, [], _∷_, _++_, append-assoc}
+use Prim.Native.Nat.{ℕ, zero, suc, _+_, _-_, _*_, _%_}
 use native.Mathlib.Omega.{arith}
-use native.Mathlib.Nat.{zero-add}
+use mathlib.Core.Path.{_≡_, ap, _∙_}
+use mathlib.Core.List.{List, [], _∷_, _++_, append-assoc}
 use lib.ListN.{length, set, drop, replicate, length-append, length-set, length-replicate, replicate-append-replicate}
-use lib.Seq.{drop-append-seam}
 use Rattle.stretch.specs.Over.{over}
 use Rattle.stretch.proofs.Over.{over-front, over-next, over-end, set-over, length-over}
 use Rattle.sha512.specs.Message.{bytesOf, padding}
-use Rattle.sha512.specs.Parts.{filled}
 use Rattle.sha512.proofs.Numbers.{length-bytesOf}
 
 pub drop-replicate : (k n a : ℕ) → drop n (replicate k a) ≡ replicate (k - n) a

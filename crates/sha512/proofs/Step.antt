@@ -1,11 +1,11 @@
 -- The loops of the block step, one turn each.
-use Prim.Native.Nat.{ℕ, zero, suc, _+_, _*_, _<_, _≤_}
-use mathlib.Core.Path.{_≡_, refl, sym, ap, _∙_}
-use mathlib.Core.List.{List, [], _∷_, _++_}
+use Prim.Native.Nat.{ℕ, zero, suc, _+_, _*_, _<_}
 use native.Mathlib.Omega.{arith}
 use native.Mathlib.Numerals.{add-one}
 use native.Mathlib.Nat.{suc-add, add-zero}
-use lib.ListN.{length, getD, take, drop, set, length-append, length-take}
+use mathlib.Core.Path.{_≡_, sym, ap, _∙_}
+use mathlib.Core.List.{List}
+use lib.ListN.{length, getD, take, drop, set, length-append}
 use lib.Seq.{take-suc-set, getD-take}
 use Rattle.sha512.specs.declared.Hash.{Hash}
 use Rattle.sha512.specs.Constants.{K}

@@ -1,5 +1,5 @@
 -- FIPS 180-4, sections 5.1.2, 5.2.2 and 6.4: padding, blocks, and the digest of a message of bytes.
-use Prim.Native.Nat.{ℕ, zero, suc, _+_, _-_, _*_, _/_, _%_}
+use Prim.Native.Nat.{ℕ, zero, suc, _-_, _*_, _/_, _%_}
 use mathlib.Core.List.{List, [], _∷_, _++_}
 use lib.ListN.{length, take, drop, replicate}
 use Rattle.sha512.specs.declared.Hash.{Hash}

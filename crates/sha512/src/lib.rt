@@ -4,11 +4,11 @@
 mod big_endian;
 mod block;
 mod constants;
-mod digest;
+mod last_block;
 mod parts;
 mod words;
 
-pub use digest::finish;
+pub use last_block::finish;
 pub use parts::begin;
 pub use parts::feed;
 

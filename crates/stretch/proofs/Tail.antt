@@ -1,8 +1,8 @@
 -- The tail of a list from a place on, as lending `&s[place..]` shows it.
 use Prim.Native.Nat.{ℕ, _-_}
+use native.Mathlib.Omega.{arith}
 use mathlib.Core.Path.{_≡_}
 use mathlib.Core.List.{List}
-use native.Mathlib.Omega.{arith}
 use lib.ListN.{length, take, drop, length-drop}
 use lib.Seq.{take-all}
 

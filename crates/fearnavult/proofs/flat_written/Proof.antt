@@ -1,3 +1,4 @@
+-- Each arm is the definition's case.
 use borrow.Author.Needs.{needs}
 use Rattle.fearnavult.proofs.flat_written.Statement.{statement}
 use Rattle.fearnavult.proofs.flat_written.Tie as tie

@@ -1,7 +1,8 @@
-use borrow.Author.Tests.{lt-ltb, le-ltb, eq-eqb, ne-eqb}
+-- Each arm is the ranges' rule, which is the alphabet's at every value.
 use native.Mathlib.Omega.{arith}
-use Rattle.digest.proofs.Encoding.{ranged, ranged-right}
+use borrow.Author.Tests.{lt-ltb, le-ltb, eq-eqb, ne-eqb}
 use borrow.Author.Needs.{needs}
+use Rattle.digest.proofs.Encoding.{ranged, ranged-right}
 use Rattle.digest.proofs.base64.character_of.Statement.{statement}
 use Rattle.digest.proofs.base64.character_of.Tie as tie
 

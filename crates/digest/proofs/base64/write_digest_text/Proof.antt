@@ -1,8 +1,9 @@
+-- After i turns the characters of the first i groups stand at the front.
 use Prim.Native.Nat.{_*_, _≤_, _-_}
-use mathlib.Core.Path.{_≡_, refl, sym, _∙_, ap}
 use native.Mathlib.Omega.{arith}
-use borrow.Author.Needs.{needs}
+use mathlib.Core.Path.{_≡_, refl, sym, _∙_, ap}
 use lib.ListN.{length, take}
+use borrow.Author.Needs.{needs}
 use Rattle.stretch.specs.Over.{over}
 use Rattle.stretch.proofs.Over.{over-nil}
 use Rattle.digest.specs.Base64.{encoded}

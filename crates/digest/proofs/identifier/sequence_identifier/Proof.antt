@@ -1,9 +1,11 @@
+-- Each return is what the grounds say, by the tests that led there; the digest of the one part is the message's.
+use Prim.Native.Nat.{_+_, _≤_}
+use native.Mathlib.Omega.{arith}
 use mathlib.Core.Path.{_≡_, _∙_, sym, ap}
 use mathlib.Core.List.{_++_}
-use native.Mathlib.Omega.{arith}
-use borrow.Author.Tests.{lt-ltb, le-ltb, ltb-false}
-use Prim.Native.Nat.{_+_, _≤_}
 use lib.ListN.{length, length-take, length-drop}
+use borrow.Author.Tests.{lt-ltb, le-ltb, ltb-false}
+use borrow.Author.Needs.{needs}
 use Rattle.stretch.specs.Ascii.{ascii}
 use Rattle.stretch.proofs.Over.{over-tail-front}
 use Rattle.sha512.specs.declared.Running.{Running}
@@ -13,7 +15,6 @@ use Rattle.sha512.proofs.Join.{whole}
 use Rattle.digest.specs.Identifier.{digestText, sha512t24u, sequenceIdentifier}
 use Rattle.digest.proofs.Encoding.{length-identifier}
 use Rattle.digest.proofs.Promises.{writes-nothing, writes-all}
-use borrow.Author.Needs.{needs}
 use Rattle.digest.proofs.identifier.sequence_identifier.Statement.{statement}
 use Rattle.digest.proofs.identifier.sequence_identifier.Tie as tie
 

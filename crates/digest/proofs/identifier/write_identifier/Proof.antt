@@ -1,10 +1,11 @@
-use mathlib.Core.Path.{_∙_}
+-- The prefix, and behind it the text in a tail that comes back.
 use native.Mathlib.Omega.{arith}
+use mathlib.Core.Path.{_∙_}
 use lib.ListN.{length}
+use borrow.Author.Needs.{needs}
 use Rattle.stretch.proofs.Over.{over-next, over-tail-front}
 use Rattle.digest.specs.Identifier.{digestText}
 use Rattle.digest.proofs.Encoding.{length-digestText}
-use borrow.Author.Needs.{needs}
 use Rattle.digest.proofs.identifier.write_identifier.Statement.{statement}
 use Rattle.digest.proofs.identifier.write_identifier.Tie as tie
 

@@ -1,16 +1,16 @@
-use lib.ListN.{length-take, length-drop}
+-- Each return is what the grounds say, by the tests that led there.
+use Prim.Native.Nat.{_+_, _≤_}
+use native.Mathlib.Omega.{arith}
 use mathlib.Core.List.{_++_}
+use mathlib.Core.Path.{_≡_, _∙_, sym}
+use lib.ListN.{length-take, length-drop, length}
+use borrow.Author.Tests.{lt-ltb, le-ltb, ltb-false}
+use borrow.Author.Needs.{needs}
 use Rattle.stretch.specs.Ascii.{ascii}
+use Rattle.stretch.proofs.Over.{over-tail-front}
 use Rattle.digest.specs.Identifier.{digestText}
 use Rattle.digest.proofs.Encoding.{length-identifier}
-use mathlib.Core.Path.{_≡_, _∙_, sym, ap}
-use native.Mathlib.Omega.{arith}
-use borrow.Author.Tests.{lt-ltb, le-ltb, ltb-false}
-use Prim.Native.Nat.{_+_, _≤_}
-use lib.ListN.{length}
-use Rattle.stretch.proofs.Over.{over-tail-front}
 use Rattle.digest.proofs.Promises.{writes-nothing, writes-all}
-use borrow.Author.Needs.{needs}
 use Rattle.digest.proofs.running.finish.Statement.{statement}
 use Rattle.digest.proofs.running.finish.Tie as tie
 

@@ -3,8 +3,8 @@ use Prim.Native.Nat.{_≤_, _-_}
 use native.Mathlib.Omega.{arith}
 use mathlib.Core.Path.{_≡_, refl, _∙_, sym}
 use mathlib.Core.Bool.{false, cond}
-use borrow.Author.Needs.{needs}
 use lib.ListN.{length, drop}
+use borrow.Author.Needs.{needs}
 use Rattle.letters.specs.Letters.{residue, every}
 use Rattle.letters.proofs.Class.{every-on, every-end}
 use Rattle.letters.proofs.residues.all_residues.Statement.{statement}

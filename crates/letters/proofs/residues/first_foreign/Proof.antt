@@ -2,9 +2,9 @@
 use Prim.Native.Nat.{_+_, _≤_, _-_}
 use native.Mathlib.Omega.{arith}
 use mathlib.Core.Path.{_≡_, _∙_, sym}
+use lib.ListN.{length, drop}
 use borrow.Author.Needs.{needs}
 use borrow.Author.Tests.{not-true, not-false}
-use lib.ListN.{length, drop}
 use Rattle.letters.specs.Letters.{residue, foreign}
 use Rattle.letters.proofs.Outside.{firstOutside-on, firstOutside-here, firstOutside-end}
 use Rattle.letters.proofs.residues.first_foreign.Statement.{statement}

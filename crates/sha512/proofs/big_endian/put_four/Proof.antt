@@ -1,6 +1,7 @@
+-- Four writes, each behind the one before, are one.
 use native.Mathlib.Omega.{arith}
-use Rattle.sha512.proofs.Numbers.{put-words}
 use borrow.Author.Needs.{needs}
+use Rattle.sha512.proofs.Numbers.{put-words}
 use Rattle.sha512.proofs.big_endian.put_four.Statement.{statement}
 use Rattle.sha512.proofs.big_endian.put_four.Tie as tie
 

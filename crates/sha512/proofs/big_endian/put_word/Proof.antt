@@ -1,7 +1,8 @@
+-- The part of eight bytes comes back filled.
 use Prim.Native.Nat.{_+_, _-_}
 use native.Mathlib.Omega.{arith}
-use Rattle.sha512.proofs.Numbers.{put-number}
 use borrow.Author.Needs.{needs}
+use Rattle.sha512.proofs.Numbers.{put-number}
 use Rattle.sha512.proofs.big_endian.put_word.Statement.{statement}
 use Rattle.sha512.proofs.big_endian.put_word.Tie as tie
 

@@ -1,6 +1,7 @@
-use Rattle.sha512.proofs.Numbers.{bigEndian-four}
+-- Four bytes are below 2 to the 32nd, and the definition's four steps are the code's.
 use native.Mathlib.Omega.{arith}
 use borrow.Author.Needs.{needs}
+use Rattle.sha512.proofs.Numbers.{bigEndian-four}
 use Rattle.sha512.proofs.big_endian.read_half.Statement.{statement}
 use Rattle.sha512.proofs.big_endian.read_half.Tie as tie
 

@@ -1,6 +1,7 @@
-use Rattle.sha512.proofs.Numbers.{bigEndian-eight}
+-- Eight bytes are two halves of four.
 use native.Mathlib.Omega.{arith}
 use borrow.Author.Needs.{needs}
+use Rattle.sha512.proofs.Numbers.{bigEndian-eight}
 use Rattle.sha512.proofs.big_endian.read_word.Statement.{statement}
 use Rattle.sha512.proofs.big_endian.read_word.Tie as tie
 

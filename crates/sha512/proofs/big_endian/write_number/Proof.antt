@@ -1,12 +1,11 @@
-use Rattle.sha512.proofs.Numbers.{write-turn}
-use mathlib.Core.Path.{sym}
-use lib.Seq.{drop-length}
-use mathlib.Core.List.{append-nil}
-use Prim.Native.Nat.{_≤_, _<_, _^_}
-use mathlib.Core.Path.{_≡_, refl}
-use mathlib.Core.List.{_++_}
+-- The loop goes from the last byte to the first: the bytes still to be written, then those that are, make the number's.
+use Prim.Native.Nat.{_≤_}
 use native.Mathlib.Omega.{arith}
+use mathlib.Core.Path.{sym, _≡_, refl}
+use mathlib.Core.List.{append-nil, _++_}
+use lib.Seq.{drop-length}
 use lib.ListN.{length, drop, length-set}
+use Rattle.sha512.proofs.Numbers.{write-turn}
 use Rattle.sha512.specs.Message.{bytesOf}
 use Rattle.sha512.proofs.big_endian.write_number.Statement.{statement}
 use Rattle.sha512.proofs.big_endian.write_number.Tie as tie

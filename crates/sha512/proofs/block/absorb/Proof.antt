@@ -1,8 +1,9 @@
+-- After i turns the hash value is that of the first i blocks.
 use Prim.Native.Nat.{_+_, _*_, _≤_, _-_, _/_}
-use mathlib.Core.Path.{_≡_, refl}
 use native.Mathlib.Omega.{arith}
+use mathlib.Core.Path.{_≡_, refl}
+use lib.ListN.{length, length-take, length-drop}
 use borrow.Author.Needs.{needs}
-use lib.ListN.{length, take, drop, length-take, length-drop}
 use Rattle.sha512.specs.Message.{absorbed, hashed}
 use Rattle.sha512.proofs.Step.{absorb-turn}
 use Rattle.sha512.proofs.block.absorb.Statement.{statement}

@@ -1,7 +1,8 @@
-use Rattle.sha512.proofs.Step.{round-turn}
+-- After t turns the state is that of t rounds.
 use Prim.Native.Nat.{_≤_, _-_}
-use mathlib.Core.Path.{_≡_, refl}
 use native.Mathlib.Omega.{arith}
+use mathlib.Core.Path.{_≡_, refl}
+use Rattle.sha512.proofs.Step.{round-turn}
 use Rattle.sha512.specs.Block.{rounds}
 use Rattle.sha512.proofs.block.all_rounds.Statement.{statement}
 use Rattle.sha512.proofs.block.all_rounds.Tie as tie

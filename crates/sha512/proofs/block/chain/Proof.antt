@@ -1,3 +1,4 @@
+-- Eight sums.
 use borrow.Author.Needs.{needs}
 use Rattle.sha512.proofs.block.chain.Statement.{statement}
 use Rattle.sha512.proofs.block.chain.Tie as tie

@@ -1,10 +1,9 @@
+-- The schedule is that of the block's words, and the rounds are over it.
 use native.Mathlib.Omega.{arith}
 use lib.ListN.{length-take}
-use mathlib.Core.Path.{_∙_, ap, _≡_}
-use lib.ListN.{length}
+use borrow.Author.Needs.{needs}
 use Rattle.sha512.specs.Block.{compressed}
 use Rattle.sha512.proofs.Step.{length-schedule}
-use borrow.Author.Needs.{needs}
 use Rattle.sha512.proofs.block.compress.Statement.{statement}
 use Rattle.sha512.proofs.block.compress.Tie as tie
 

@@ -1,10 +1,10 @@
-use mathlib.Core.Path.{_∙_, sym}
-use lib.Seq.{take-all}
-use Rattle.sha512.proofs.Step.{extend-turn}
+-- After t turns the first t + 16 words are the schedule so far.
 use Prim.Native.Nat.{_+_, _≤_, _-_}
-use mathlib.Core.Path.{_≡_, refl}
 use native.Mathlib.Omega.{arith}
+use mathlib.Core.Path.{_∙_, sym, _≡_, refl}
+use lib.Seq.{take-all}
 use lib.ListN.{length, take, length-set}
+use Rattle.sha512.proofs.Step.{extend-turn}
 use Rattle.sha512.specs.Block.{schedule}
 use Rattle.sha512.proofs.block.extend.Statement.{statement}
 use Rattle.sha512.proofs.block.extend.Tie as tie

@@ -1,10 +1,9 @@
-use Rattle.sha512.proofs.Step.{load-turn}
+-- After t turns the first t words are the block's.
 use Prim.Native.Nat.{_≤_, _-_}
-use mathlib.Core.Path.{_≡_, refl}
 use native.Mathlib.Omega.{arith}
-use native.Mathlib.Numerals.{add-one}
+use mathlib.Core.Path.{_≡_, refl}
 use lib.ListN.{length, take, length-set}
-use lib.Seq.{take-suc-set}
+use Rattle.sha512.proofs.Step.{load-turn}
 use Rattle.sha512.specs.Block.{blockWords}
 use Rattle.sha512.proofs.block.load.Statement.{statement}
 use Rattle.sha512.proofs.block.load.Tie as tie

@@ -1,3 +1,4 @@
+-- The sums in the definition's order.
 use borrow.Author.Needs.{needs}
 use Rattle.sha512.proofs.block.mixed.Statement.{statement}
 use Rattle.sha512.proofs.block.mixed.Tie as tie

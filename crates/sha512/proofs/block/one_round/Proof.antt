@@ -1,3 +1,4 @@
+-- The sums in the definition's order.
 use borrow.Author.Needs.{needs}
 use Rattle.sha512.proofs.block.one_round.Statement.{statement}
 use Rattle.sha512.proofs.block.one_round.Tie as tie

@@ -1,3 +1,4 @@
+-- The two tables are one, word for word.
 use mathlib.Core.Path.{refl}
 use Rattle.sha512.specs.Constants.{K}
 use Rattle.sha512.proofs.constants.round_constants.Statement.{statement}

@@ -1,13 +1,13 @@
+-- The three ways in which a part is taken, each by its law.
 use Prim.Native.Nat.{_-_, _%_}
-use mathlib.Core.Path.{_≡_, _∙_, sym, ap}
-use lib.ListN.{length, length-append}
-use lib.Seq.{length-take-le}
-use Rattle.sha512.proofs.Join.{fed-aligned, fed-short, fed-past}
-use Rattle.stretch.proofs.Tail.{lent-tail}
 use native.Mathlib.Omega.{arith}
-use lib.ListN.{length-take, length-drop}
-use Rattle.sha512.specs.Parts.{after, fed, waiting}
+use mathlib.Core.Path.{_≡_, _∙_, sym}
+use lib.ListN.{length, length-append, length-take}
+use lib.Seq.{length-take-le}
 use borrow.Author.Needs.{needs}
+use Rattle.stretch.proofs.Tail.{lent-tail}
+use Rattle.sha512.proofs.Join.{fed-aligned, fed-short, fed-past}
+use Rattle.sha512.specs.Parts.{waiting}
 use Rattle.sha512.proofs.parts.feed.Statement.{statement}
 use Rattle.sha512.proofs.parts.feed.Tie as tie
 

@@ -1,9 +1,7 @@
-use mathlib.Core.Path.{_∙_, ap, _≡_}
-use Prim.Native.Nat.{ℕ}
-use mathlib.Core.List.{List}
-use Rattle.stretch.specs.Over.{over}
-use Rattle.sha512.proofs.Join.{laid-filled}
+-- Over zeros the two stretches, one behind the other.
+use mathlib.Core.Path.{_∙_}
 use borrow.Author.Needs.{needs}
+use Rattle.sha512.proofs.Join.{laid-filled}
 use Rattle.sha512.proofs.parts.fill.Statement.{statement}
 use Rattle.sha512.proofs.parts.fill.Tie as tie
 

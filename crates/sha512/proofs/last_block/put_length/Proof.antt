@@ -1,10 +1,11 @@
+-- Fifteen bytes and the last one are the sixteen of the count of bits.
 use Prim.Native.Nat.{_-_}
-use lib.ListN.{length}
 use native.Mathlib.Omega.{arith}
-use Rattle.sha512.proofs.Numbers.{put-bits}
+use lib.ListN.{length}
 use borrow.Author.Needs.{needs}
-use Rattle.sha512.proofs.digest.put_length.Statement.{statement}
-use Rattle.sha512.proofs.digest.put_length.Tie as tie
+use Rattle.sha512.proofs.Numbers.{put-bits}
+use Rattle.sha512.proofs.last_block.put_length.Statement.{statement}
+use Rattle.sha512.proofs.last_block.put_length.Tie as tie
 
 sub-write-number : tie.Need-sub-write-number
 sub-write-number c = search needs

@@ -1,14 +1,15 @@
+-- Two halves of four words fill the 64 bytes.
 use Prim.Native.Nat.{ℕ}
+use native.Mathlib.Omega.{arith}
 use mathlib.Core.List.{_++_}
 use mathlib.Core.Path.{_∙_}
-use native.Mathlib.Omega.{arith}
 use lib.ListN.{replicate, length-append}
+use borrow.Author.Needs.{needs}
 use Rattle.stretch.proofs.Over.{over-next, over-all}
 use Rattle.sha512.specs.Message.{hashBytes, fourWords}
 use Rattle.sha512.proofs.Numbers.{length-fourWords}
-use borrow.Author.Needs.{needs}
-use Rattle.sha512.proofs.digest.bytes.Statement.{statement}
-use Rattle.sha512.proofs.digest.bytes.Tie as tie
+use Rattle.sha512.proofs.last_block.bytes.Statement.{statement}
+use Rattle.sha512.proofs.last_block.bytes.Tie as tie
 
 slice-aggregate-put-four : tie.Need-slice-aggregate-put-four
 slice-aggregate-put-four c = search needs

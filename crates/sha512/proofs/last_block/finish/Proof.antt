@@ -1,14 +1,14 @@
+-- With fewer than 112 bytes waiting one block holds them and their padding, else two.
 use Prim.Native.Nat.{_%_}
-use lib.ListN.{take}
-use Rattle.sha512.proofs.Padding.{zeros-for}
-use Rattle.sha512.specs.Parts.{finished, waiting}
-use mathlib.Core.Path.{_≡_, sym}
 use native.Mathlib.Omega.{arith}
-use lib.ListN.{length}
+use mathlib.Core.Path.{_≡_, sym}
+use lib.ListN.{take, length}
 use lib.Seq.{length-take-le}
 use borrow.Author.Needs.{needs}
-use Rattle.sha512.proofs.digest.finish.Statement.{statement}
-use Rattle.sha512.proofs.digest.finish.Tie as tie
+use Rattle.sha512.proofs.Padding.{zeros-for}
+use Rattle.sha512.specs.Parts.{finished, waiting}
+use Rattle.sha512.proofs.last_block.finish.Statement.{statement}
+use Rattle.sha512.proofs.last_block.finish.Tie as tie
 
 long : (c : tie.Start) → length (c .args .state .block) ≡ 128
 long c = search needs

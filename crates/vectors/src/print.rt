@@ -1,0 +1,52 @@
+// The parts of a line, on standard output.
+use libc::STDOUT_FILENO;
+use refusal::Outcome;
+use refusal::Refusal;
+use refusal::Written;
+
+pub fn text(s: &[u8]) {
+    io::write_all(STDOUT_FILENO, s);
+}
+
+// An empty text shows as a point.
+pub fn shown(s: &[u8]) {
+    if s.len() == 0 {
+        text(b".");
+    } else {
+        text(s);
+    }
+}
+
+pub fn labelled(label: &[u8], n: u64) {
+    text(label);
+    io::print_decimal(STDOUT_FILENO, n);
+}
+
+pub fn hex_byte(b: u8) {
+    io::print_hex(STDOUT_FILENO, b as u64, 2);
+}
+
+pub fn hex(s: &[u8]) {
+    for i in 0..s.len() {
+        hex_byte(s[i]);
+    }
+}
+
+fn refused(r: Refusal) {
+    labelled(b" refused ", r.number);
+    labelled(b" ", r.value);
+}
+
+pub fn outcome(answer: Outcome) {
+    match answer {
+        Outcome::Accepted => text(b" taken"),
+        Outcome::Refused(r) => refused(r),
+    }
+}
+
+pub fn written(answer: Written) {
+    match answer {
+        Written::Bytes(count) => labelled(b" written ", count),
+        Written::Refused(r) => refused(r),
+    }
+}
