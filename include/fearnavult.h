@@ -2,7 +2,7 @@
  * Fearnavult: the calls that other software links.
  *
  * Link libfearnavult.a, which `rt staticlib fearnavult` writes to target/staticlib/. It is for
- * x86-64.
+ * x86-64, allocates nothing, and calls memcpy and memset of your C library and nothing else.
  *
  * A slice is a pointer and then its length in bytes. The pointer must not be null, even where the
  * length is 0, and that many bytes must be readable there (and writable, where it is not const)

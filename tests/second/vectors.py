@@ -69,6 +69,17 @@ def running_lines():
         yield f"finish total {total} place {place} room {room} " + outcome(*model.finished(total, room, place), "written 41")
 
 
+def parts_lines():
+    # three parts one after another; one that is refused leaves no trace
+    for parts in ((b"AC", b"GT", b""), (b"", b"ACGT", b""), (b"ACGT", b"", b""), (b"A", b"C", b"GT"), (b"AC", b"xx", b"GT")):
+        taken = b""
+        for part in parts:
+            if model.fed(len(taken), part) == model.ACCEPTED:
+                taken += part
+        *_, out = model.sequence_identifier(taken, bytes(41), 0)
+        yield f"parts {' '.join(map(shown, parts))} written 41 {out.decode('ascii')}"
+
+
 def digest_text_lines():
     good = ACGT_DIGEST
     for text in (
@@ -80,6 +91,6 @@ def digest_text_lines():
         yield f"digest-text {shown(text)} " + outcome(*model.digest_text(text), "taken")
 
 
-for lines in (sha512_lines, base64url_lines, identifier_lines, running_lines, digest_text_lines):
+for lines in (sha512_lines, base64url_lines, identifier_lines, running_lines, parts_lines, digest_text_lines):
     for line in lines():
         print(line)

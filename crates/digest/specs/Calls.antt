@@ -5,12 +5,11 @@ use mathlib.Core.List.{List, [], _∷_, _++_}
 use lib.Dec.{ltb}
 use lib.ListN.{length}
 use Rattle.refusal.specs.Limits.{referenceLimit}
-use Rattle.refusal.specs.Verdict.{Ground, ground, Verdict, verdict, tell, leave, outputTooShort}
+use Rattle.refusal.specs.Verdict.{Ground, ground, verdict, tell, leave}
+use Rattle.refusal.specs.Writes.{outputTooShort, Writes}
 use Rattle.refusal.specs.declared.Outcome.the-variants.{Accepted, Refused}
 use Rattle.refusal.specs.declared.Written.{Written}
-use Rattle.refusal.specs.declared.Written.the-variants.{Bytes, Refused as Unwritten}
 use Rattle.stretch.specs.Ascii.{ascii}
-use Rattle.stretch.specs.Over.{over}
 use Rattle.letters.specs.Letters.{foreign}
 use Rattle.sha512.specs.declared.Running.{Running}
 use Rattle.sha512.specs.Parts.{fed, finished}
@@ -37,11 +36,7 @@ abbrev pub finishGrounds : ℕ → ℕ → ℕ → List Ground
 finishGrounds total room place =
     ground (ltb referenceLimit total) 1 0 ∷ outputTooShort room place 41 ∷ []
 
--- 41 bytes are written from the place on, or nothing
-pub record Writes (v : Verdict) (identifier out : List ℕ) (place : ℕ) (answer : Written) (left : List ℕ) : Type 0 where
-  pub answers : answer ≡ tell Unwritten v (Bytes 41)
-  pub leaves : left ≡ leave v out (over out place identifier)
-
+-- the identifier is written from the place on, or nothing
 abbrev pub Identifies : List ℕ → List ℕ → ℕ → Written → List ℕ → Type 0
 Identifies reference out place = Writes (verdict (wholeGrounds reference (length out) place)) (sequenceIdentifier reference) out place
 

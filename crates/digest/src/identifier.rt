@@ -44,7 +44,7 @@ pub fn sequence_identifier(reference: &[u8], out: &mut [u8], place: u64) -> Writ
     if sum_exceeds(place, IDENTIFIER_LENGTH, out.len() as u64) {
         return Written::Refused(refuse(OUTPUT_TOO_SHORT, IDENTIFIER_LENGTH));
     }
-    let digest = sha512::finish(sha512::feed(sha512::begin(), reference));
+    let digest = sha512::of_message(reference);
     let from = place as usize;
     write_identifier(&mut out[from..], b"ga4gh:SQ.", &digest);
     Written::Bytes(IDENTIFIER_LENGTH)

@@ -1,3 +1,4 @@
 pub mod Sum
 pub mod Unique
 pub mod Verdict
+pub mod Writes

@@ -1,2 +1,3 @@
 pub mod Limits
 pub mod Verdict
+pub mod Writes

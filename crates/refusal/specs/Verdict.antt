@@ -1,8 +1,7 @@
 -- Document 01, "Turned away": a call's grounds for refusing stand in its order, and the first that holds decides.
-use Prim.Native.Nat.{ℕ, _+_}
+use Prim.Native.Nat.{ℕ}
 use mathlib.Core.Bool.{Bool, true, false}
 use mathlib.Core.List.{List, [], _∷_}
-use lib.Dec.{ltb}
 use Rattle.refusal.specs.declared.Refusal.{Refusal}
 
 -- a condition, and the number and the value that it is refused under
@@ -36,7 +35,3 @@ tell f (refused r) a = f r
 abbrev pub leave : {A : Type 0} → Verdict → A → A → A
 leave accepted old new = new
 leave (refused r) old new = old
-
--- refusal 6: fewer than n bytes from place on, or a place past the end of a buffer of that many bytes of room
-abbrev pub outputTooShort : ℕ → ℕ → ℕ → Ground
-outputTooShort room place n = ground (ltb room (place + n)) 6 n

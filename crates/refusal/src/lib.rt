@@ -1,7 +1,8 @@
 // What a call answers when it turns its input away: document 01's number and value, with the
 // numbers and the limits by name. Every crate that refuses stands on this one.
 //
-// specs/Verdict.antt has the ordered grounds of a refusal and the verdict over them.
+// specs/Verdict.antt has the ordered grounds of a refusal and the verdict over them, and
+// specs/Writes.antt what a call that writes promises.
 ghost use mathlib.Core.Path.{_≡_};
 ghost use Prim.Native.Nat.{_+_};
 ghost use lib.Dec.{ltb};

@@ -29,7 +29,7 @@ length-rest m = rw length-drop (omega arith)
 
 -- the whole blocks of xs, and then those of what lies behind them, are those of the join
 blocks-on : (xs ys : List ℕ) → length (xs ++ ys) / 128 ≡ length xs / 128 + length (rest xs ++ ys) / 128
-blocks-on xs ys = rw (length-append, length-append, length-rest) (omega arith)
+blocks-on xs ys = rw (length-append xs ys, length-append (rest xs) ys, length-rest xs) (omega arith)
 
 rest-append : (xs ys : List ℕ) → rest xs ++ ys ≡ drop (length xs / 128 * 128) (xs ++ ys)
 unfolding rest

@@ -31,7 +31,7 @@ laid-filled xs ys h =
 
 pub after-on : (s : Hash) (n : ℕ) (xs ys : List ℕ) → after s n (xs ++ ys) ≡ after (hashed s xs) n (rest xs ++ ys)
 unfolding after
-after-on s n xs ys = rw (hashed-on, rest-on)
+after-on s n xs ys = rw (hashed-on s xs ys, rest-on xs ys)
 
 pub filled-whole : (xs : List ℕ) → length xs ≡ 128 → filled xs ≡ xs
 unfolding filled

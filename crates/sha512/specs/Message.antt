@@ -11,7 +11,7 @@ unfoldable pub bytesOf : ℕ → ℕ → List ℕ
 bytesOf zero x = []
 bytesOf (suc n) x = bytesOf n (x / 256) ++ (x % 256 ∷ [])
 
--- what follows a message of n bytes: a bit 1, as few zeros as it takes, and the length in bits as a 128-bit number
+-- what follows a message of n bytes: a bit 1, as few zeros as fill the last block up to its last 16 bytes, and there the length in bits
 unfoldable pub padding : ℕ → List ℕ
 padding n = 0x80 ∷ (replicate ((239 - n % 128) % 128) 0 ++ bytesOf 16 (n * 8))
 

@@ -4,13 +4,15 @@ use super::Running;
 use super::big_endian::put_four;
 use super::big_endian::write_number;
 use super::block::absorb;
+use super::parts::begin;
+use super::parts::feed;
 use stretch::copy;
 ghost use mathlib.Core.Path.{_≡_};
 ghost use mathlib.Core.List.{_++_};
 ghost use Prim.Native.Nat.{_+_, _-_, _*_, _%_, _≤_};
 ghost use lib.ListN.{length, replicate};
 ghost use Rattle.stretch.specs.Over.{over};
-ghost use Rattle.sha512.specs.Message.{bytesOf, padding, hashBytes};
+ghost use Rattle.sha512.specs.Message.{bytesOf, padding, hashBytes, sha512};
 ghost use Rattle.sha512.specs.Parts.{finished};
 
 // Lays the count of bits of `total` bytes over the end of `out`, as a 128-bit number.
@@ -59,4 +61,11 @@ pub fn finish(state: Running) -> [u8; 64]
     let mut last = [0u8; 256];
     pad(&mut last, &block[..waiting], total);
     bytes(absorb(hash, &last))
+}
+
+// The digest of a message that comes whole.
+pub fn of_message(message: &[u8]) -> [u8; 64]
+    ensures { λ r. ⌜ r ≡ sha512 (now (message .entry)) ⌝ }
+{
+    finish(feed(begin(), message))
 }

@@ -9,6 +9,7 @@ mod parts;
 mod words;
 
 pub use last_block::finish;
+pub use last_block::of_message;
 pub use parts::begin;
 pub use parts::feed;
 

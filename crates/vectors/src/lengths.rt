@@ -2,7 +2,6 @@
 use crate::print::hex;
 use crate::print::labelled;
 use crate::print::text;
-use crate::published::digest_of;
 use stretch::equal;
 ghost use Prim.Native.Nat.{_≤_};
 ghost use lib.ListN.{length};
@@ -34,7 +33,7 @@ fn line(message: &[u8])
     requires { ⌜ length (now message) ≤ 300 ⌝ }
 {
     let cut = message.len() * 5 / 7;
-    let whole = digest_of(message);
+    let whole = sha512::of_message(message);
     let parts = digest_of_two(&message[0..cut], &message[cut..]);
     labelled(b"sha512 ", message.len() as u64);
     text(b" ");

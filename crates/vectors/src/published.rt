@@ -5,10 +5,6 @@ use sha512::Running;
 ghost use mathlib.Core.Path.{_≡_};
 ghost use lib.ListN.{length};
 
-pub fn digest_of(message: &[u8]) -> [u8; 64] {
-    sha512::finish(sha512::feed(sha512::begin(), message))
-}
-
 // Six parts below, at and above the length of a block, 5,480 bytes in all.
 fn feed_uneven(state: Running, same: &[u8]) -> Running
     requires { ⌜ length (now same) ≡ 4095 ⌝ }
@@ -46,11 +42,11 @@ fn line(name: &[u8], digest: &[u8; 64]) {
 }
 
 pub fn lines() {
-    line(b"empty", &digest_of(b""));
-    line(b"abc", &digest_of(b"abc"));
+    line(b"empty", &sha512::of_message(b""));
+    line(b"abc", &sha512::of_message(b"abc"));
     line(
         b"896-bit",
-        &digest_of(
+        &sha512::of_message(
             b"abcdefghbcdefghicdefghijdefghijkefghijklfghijklmghijklmnhijklmnoijklmnopjklmnopqklmnopqrlmnopqrsmnopqrstnopqrstu",
         ),
     );

@@ -59,7 +59,38 @@ fn finish_lines() {
     finish_line(u64::MAX, 0, 41);
 }
 
+// The state after a part, taken or refused.
+fn after(state: Running, part: &[u8]) -> Running {
+    let fed = digest::feed(state, part);
+    fed.state
+}
+
+fn three_parts_line(first: &[u8], second: &[u8], third: &[u8]) {
+    let state = after(after(after(digest::begin(), first), second), third);
+    let mut space = [0u8; 41];
+    let answer = digest::finish(state, &mut space, 0);
+    text(b"parts ");
+    shown(first);
+    text(b" ");
+    shown(second);
+    text(b" ");
+    shown(third);
+    written(answer);
+    text(b" ");
+    text(&space);
+    text(b"\n");
+}
+
+fn three_parts_lines() {
+    three_parts_line(b"AC", b"GT", b"");
+    three_parts_line(b"", b"ACGT", b"");
+    three_parts_line(b"ACGT", b"", b"");
+    three_parts_line(b"A", b"C", b"GT");
+    three_parts_line(b"AC", b"xx", b"GT");
+}
+
 pub fn lines() {
     part_lines();
     finish_lines();
+    three_parts_lines();
 }

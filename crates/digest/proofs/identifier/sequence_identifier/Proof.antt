@@ -1,20 +1,16 @@
--- Each return is what the grounds say, by the tests that led there; the digest of the one part is the message's.
+-- Each return is what the grounds say, by the tests that led there.
 use Prim.Native.Nat.{_+_, _≤_}
 use native.Mathlib.Omega.{arith}
-use mathlib.Core.Path.{_≡_, _∙_, sym, ap}
+use mathlib.Core.Path.{_≡_, _∙_, sym}
 use mathlib.Core.List.{_++_}
 use lib.ListN.{length, length-take, length-drop}
 use borrow.Author.Tests.{lt-ltb, le-ltb, ltb-false}
 use borrow.Author.Needs.{needs}
 use Rattle.stretch.specs.Ascii.{ascii}
 use Rattle.stretch.proofs.Over.{over-tail-front}
-use Rattle.sha512.specs.declared.Running.{Running}
-use Rattle.sha512.specs.Message.{sha512}
-use Rattle.sha512.specs.Parts.{fed, finished}
-use Rattle.sha512.proofs.Join.{whole}
 use Rattle.digest.specs.Identifier.{digestText, sha512t24u, sequenceIdentifier}
 use Rattle.digest.proofs.Encoding.{length-identifier}
-use Rattle.digest.proofs.Promises.{writes-nothing, writes-all}
+use Rattle.refusal.proofs.Writes.{writes-nothing, writes-all}
 use Rattle.digest.proofs.identifier.sequence_identifier.Statement.{statement}
 use Rattle.digest.proofs.identifier.sequence_identifier.Tie as tie
 
@@ -48,20 +44,14 @@ returns-3 c = let b = c .before .before .before in
     writes-nothing _ _ _ _ _
     (rw (c .refuse3 .ensures) (simp (le-ltb _ _ (b .before .before .if1 .left), ← b .before .first-foreign .ensures, le-ltb _ _ (b .if2 .left), sym (c .before .before .sum-exceeds .ensures) ∙ c .before .if3 .taken)))
 
-begin-requires : tie.Need-begin-requires
-begin-requires c κs = search needs
-
-feed-requires : tie.Need-feed-requires
-feed-requires c κs = search needs
-
-finish-requires : tie.Need-finish-requires
-finish-requires c κs = search needs
+of-message-requires : tie.Need-of-message-requires
+of-message-requires c κs = search needs
 
 sub-write-identifier : tie.Need-sub-write-identifier
-sub-write-identifier c = omega (arith, room (c .before .before .before))
+sub-write-identifier c = omega (arith, room (c .before))
 
 part-write-identifier-start : tie.Need-part-write-identifier-start
-part-write-identifier-start c = omega (arith, room (c .before .before .before))
+part-write-identifier-start c = omega (arith, room (c .before))
 
 part-write-identifier-end : tie.Need-part-write-identifier-end
 part-write-identifier-end c = search needs
@@ -73,8 +63,8 @@ slice-aggregate-write-identifier-2 : tie.Need-slice-aggregate-write-identifier-2
 slice-aggregate-write-identifier-2 c = search needs
 
 write-identifier-requires : tie.Need-write-identifier-requires
-write-identifier-requires c κs = let e : length (c .before .before .before .finish .result) ≡ 64 = search needs in
-    (rw (length-take, length-drop) (omega (arith, room (c .before .before .before .before .before .before))), omega arith)
+write-identifier-requires c κs = let e : length (c .before .before .before .of-message .result) ≡ 64 = search needs in
+    (rw (length-take, length-drop) (omega (arith, room (c .before .before .before .before))), omega arith)
 
 same-length : tie.Need-same-length
 same-length c = search needs
@@ -83,16 +73,15 @@ returns-4 : tie.Need-returns-4
 unfolding sequenceIdentifier sha512t24u
 returns-4 c =
     let b = c .before .before .before .before .before .before in
-    let f = b .before .before .before in
+    let f = b .before in
     let g = f .before .before in
     let s = g .before .before .before .before .before in
-    let e : length (b .finish .result) ≡ 64 = search needs in
-    let d : b .finish .result ≡ sha512 (s .args .reference .now) =
-    b .finish .ensures ∙ ap finished (b .before .feed .ensures ∙ ap (λ (r : Running). fed r (s .args .reference .now)) (b .before .before .begin .ensures)) ∙ whole (s .args .reference .now) (omega arith) in
-    writes-all _ _ _ _ _
+    let e : length (b .of-message .result) ≡ 64 = search needs in
+    writes-all _ _ _ _ 41 _
     (simp (le-ltb _ _ (g .before .before .if1 .left), ← g .before .first-foreign .ensures, le-ltb _ _ (g .if2 .left), sym (f .before .sum-exceeds .ensures) ∙ f .if3 .left))
-    (rw (c .before .before .write-identifier .ensures, ← d)
-    (over-tail-front (s .args .out .now) (s .args .place) (ascii "ga4gh:SQ." ++ digestText (b .finish .result)) (omega (arith, room f, length-identifier (b .finish .result) (omega arith)))))
+    (rw (← b .of-message .ensures) (sym (length-identifier (b .of-message .result) (omega arith))))
+    (rw (c .before .before .write-identifier .ensures, ← b .of-message .ensures)
+    (over-tail-front (s .args .out .now) (s .args .place) (ascii "ga4gh:SQ." ++ digestText (b .of-message .result)) (omega (arith, room f, length-identifier (b .of-message .result) (omega arith)))))
 
 pub sequence-identifier-spec : {M : Type 1} → statement M
 sequence-identifier-spec =
@@ -106,9 +95,7 @@ sequence-identifier-spec =
     sum-exceeds-requires
     refuse-requires-3
     returns-3
-    begin-requires
-    feed-requires
-    finish-requires
+    of-message-requires
     sub-write-identifier
     part-write-identifier-start
     part-write-identifier-end

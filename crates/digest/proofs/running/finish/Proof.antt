@@ -10,7 +10,7 @@ use Rattle.stretch.specs.Ascii.{ascii}
 use Rattle.stretch.proofs.Over.{over-tail-front}
 use Rattle.digest.specs.Identifier.{digestText}
 use Rattle.digest.proofs.Encoding.{length-identifier}
-use Rattle.digest.proofs.Promises.{writes-nothing, writes-all}
+use Rattle.refusal.proofs.Writes.{writes-nothing, writes-all}
 use Rattle.digest.proofs.running.finish.Statement.{statement}
 use Rattle.digest.proofs.running.finish.Tie as tie
 
@@ -61,7 +61,8 @@ returns-3 : tie.Need-returns-3
 returns-3 c = let b = c .before .before .before .before .before .before in
     let s = b .before .before .before .before .before .before .args in
     let e : length (b .finish .result) ≡ 64 = search needs in
-    writes-all _ _ _ _ _ (simp (le-ltb _ _ (b .before .before .before .if1 .left), sym (b .before .before .sum-exceeds .ensures) ∙ b .before .if2 .left))
+    writes-all _ _ _ _ 41 _ (simp (le-ltb _ _ (b .before .before .before .if1 .left), sym (b .before .before .sum-exceeds .ensures) ∙ b .before .if2 .left))
+    (rw (← b .finish .ensures) (sym (length-identifier (b .finish .result) (omega arith))))
     (rw (c .before .before .write-identifier .ensures, ← b .finish .ensures)
     (over-tail-front (s .out .now) (s .place) (ascii "ga4gh:SQ." ++ digestText (b .finish .result)) (omega (arith, room (b .before), length-identifier (b .finish .result) (omega arith)))))
 

@@ -1,0 +1,22 @@
+-- The promise of a call that writes: met by a refusal, met by a write, and unique.
+use Prim.Native.Nat.{ℕ}
+use mathlib.Core.Path.{_≡_}
+use mathlib.Core.List.{List}
+use lib.ListN.{length}
+use Rattle.stretch.specs.Over.{over}
+use Rattle.refusal.specs.declared.Refusal.{Refusal}
+use Rattle.refusal.specs.declared.Written.{Written}
+use Rattle.refusal.specs.declared.Written.the-variants.{Bytes, Refused}
+use Rattle.refusal.specs.Verdict.{Verdict, accepted, refused}
+use Rattle.refusal.specs.Writes.{Writes}
+use Rattle.refusal.proofs.Unique.{one-answer}
+
+module _ (v : Verdict) (text out : List ℕ) (place : ℕ) where
+  pub writes-nothing : (r : Refusal) → v ≡ refused r → Writes v text out place (Refused r) out
+  writes-nothing r e = record { answers = rw e; leaves = rw e }
+
+  pub writes-all : (n : ℕ) (left : List ℕ) → v ≡ accepted → n ≡ length text → left ≡ over out place text → Writes v text out place (Bytes n) left
+  writes-all n left e long w = record { answers = rw (e, long); leaves = rw e w }
+
+  pub writes-once : (a₁ a₂ : Written) (l₁ l₂ : List ℕ) → Writes v text out place a₁ l₁ → Writes v text out place a₂ l₂ → (a₁ ≡ a₂) × (l₁ ≡ l₂)
+  writes-once a₁ a₂ l₁ l₂ p q = (one-answer (p .answers) (q .answers), one-answer (p .leaves) (q .leaves))
