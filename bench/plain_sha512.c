@@ -22,12 +22,14 @@ static const uint64_t K[80] = {
 
 static uint64_t rotr(uint64_t x, int n) { return x >> n | x << (64 - n); }
 
+static uint64_t word(const uint8_t *b) {
+    return (uint64_t)b[0] << 56 | (uint64_t)b[1] << 48 | (uint64_t)b[2] << 40 | (uint64_t)b[3] << 32 |
+           (uint64_t)b[4] << 24 | (uint64_t)b[5] << 16 | (uint64_t)b[6] << 8 | (uint64_t)b[7];
+}
+
 static void block_step(uint64_t h[8], const uint8_t *block) {
     uint64_t w[80];
-    for (int t = 0; t < 16; t++) {
-        w[t] = 0;
-        for (int i = 0; i < 8; i++) w[t] = w[t] << 8 | block[8 * t + i];
-    }
+    for (int t = 0; t < 16; t++) w[t] = word(block + 8 * t);
     for (int t = 16; t < 80; t++) {
         uint64_t s0 = rotr(w[t - 15], 1) ^ rotr(w[t - 15], 8) ^ w[t - 15] >> 7;
         uint64_t s1 = rotr(w[t - 2], 19) ^ rotr(w[t - 2], 61) ^ w[t - 2] >> 6;

@@ -5,11 +5,10 @@ use native.Mathlib.Numerals.{add-one}
 use native.Mathlib.Nat.{suc-add, add-zero}
 use mathlib.Core.Path.{_≡_, sym, ap, _∙_}
 use mathlib.Core.List.{List}
-use lib.ListN.{length, getD, take, drop, set, length-append}
+use lib.ListN.{length, take, drop, set, length-append}
 use lib.Seq.{take-suc-set, getD-take}
 use Rattle.sha512.specs.declared.Hash.{Hash}
-use Rattle.sha512.specs.Constants.{K}
-use Rattle.sha512.specs.Block.{bigEndian, blockWords, scheduled, schedule, round, rounds, compressed}
+use Rattle.sha512.specs.Block.{bigEndian, blockWords, scheduled, schedule, roundAt, rounds, compressed}
 use Rattle.sha512.specs.Message.{absorbed}
 
 pub load-turn : (w b : List ℕ) (t v : ℕ) → t < length w → take t w ≡ blockWords t b → v ≡ bigEndian 8 b (t * 8) → take (t + 1) (set w t v) ≡ blockWords (t + 1) b
@@ -29,9 +28,9 @@ unfolding schedule
 length-schedule zero w = sym (add-zero (length w))
 length-schedule (suc t) w = length-append (schedule t w) _ ∙ (ap (λ (n : ℕ). n + 1) (length-schedule t w) ∙ omega arith)
 
-pub round-turn : (w : List ℕ) (s₀ s r : Hash) (t : ℕ) → s ≡ rounds t w s₀ → r ≡ round s (getD K t 0) (getD w t 0) → r ≡ rounds (t + 1) w s₀
+pub round-turn : (w : List ℕ) (s₀ s r : Hash) (t u : ℕ) → u ≡ t + 1 → s ≡ rounds t w s₀ → r ≡ roundAt t w s → r ≡ rounds u w s₀
 unfolding rounds
-round-turn w s₀ s r t e q = rw (add-one, ← e, q)
+round-turn w s₀ s r t u n e q = q ∙ ap (roundAt t w) e ∙ ap (λ (k : ℕ). rounds k w s₀) (sym (n ∙ add-one t))
 
 pub absorb-turn : (s₀ s r : Hash) (m : List ℕ) (i : ℕ) → s ≡ absorbed i s₀ m → r ≡ compressed s (take 128 (drop (i * 128) m)) → r ≡ absorbed (i + 1) s₀ m
 unfolding absorbed

@@ -45,10 +45,14 @@ round s k w =
       h = s .g;
     }
 
+-- round t of a schedule
+unfoldable pub roundAt : ℕ → List ℕ → Hash → Hash
+roundAt t w s = round s (getD K t 0) (getD w t 0)
+
 -- the first t rounds
 unfoldable pub rounds : ℕ → List ℕ → Hash → Hash
 rounds zero w s = s
-rounds (suc t) w s = round (rounds t w s) (getD K t 0) (getD w t 0)
+rounds (suc t) w s = roundAt t w (rounds t w s)
 
 -- step 4: the next hash value
 abbrev pub chained : Hash → Hash → Hash

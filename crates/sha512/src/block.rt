@@ -10,11 +10,11 @@ use super::words::majority;
 use super::words::small_sigma_0;
 use super::words::small_sigma_1;
 ghost use mathlib.Core.Path.{_≡_};
-ghost use Prim.Native.Nat.{_+_};
+ghost use Prim.Native.Nat.{_+_, _<_};
 ghost use lib.ListN.{length, take};
 ghost use Rattle.sha512.specs.Constants.{K};
 ghost use Rattle.sha512.specs.Words.{_⊞_, σ₀, σ₁};
-ghost use Rattle.sha512.specs.Block.{blockWords, schedule, round, rounds, chained, compressed};
+ghost use Rattle.sha512.specs.Block.{blockWords, schedule, round, roundAt, rounds, chained, compressed};
 ghost use Rattle.sha512.specs.Message.{hashed};
 
 // The block's sixteen words at the front of the schedule.
@@ -68,6 +68,16 @@ fn one_round(s: Hash, k: u64, w: u64) -> Hash
     }
 }
 
+fn round_at(s: Hash, t: usize, w: &[u64; 80], k: &[u64; 80]) -> Hash
+    requires { ⌜ t < 80 ⌝ }
+    requires { ⌜ length (now w) ≡ 80 ⌝ }
+    requires { ⌜ now k ≡ K ⌝ }
+    ensures { λ r. ⌜ r ≡ roundAt t (now (w .entry)) s ⌝ }
+{
+    one_round(s, k[t], w[t])
+}
+
+// Four rounds a turn spare the eight words most of their moves from variable to variable.
 fn all_rounds(start: Hash, w: &[u64; 80], k: &[u64; 80]) -> Hash
     requires { ⌜ length (now w) ≡ 80 ⌝ }
     requires { ⌜ now k ≡ K ⌝ }
@@ -76,8 +86,11 @@ fn all_rounds(start: Hash, w: &[u64; 80], k: &[u64; 80]) -> Hash
     let mut s = start;
     let mut t = 0;
     while t < 80 {
-        s = one_round(s, k[t], w[t]);
-        t += 1;
+        let s1 = round_at(s, t, w, k);
+        let s2 = round_at(s1, t + 1, w, k);
+        let s3 = round_at(s2, t + 2, w, k);
+        s = round_at(s3, t + 3, w, k);
+        t += 4;
     }
     s
 }

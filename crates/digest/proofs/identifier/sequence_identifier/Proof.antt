@@ -6,11 +6,11 @@ use mathlib.Core.List.{_++_}
 use lib.ListN.{length, length-take, length-drop}
 use borrow.Author.Tests.{lt-ltb, le-ltb, ltb-false}
 use borrow.Author.Needs.{needs}
+use Rattle.refusal.proofs.Writes.{writes-nothing, writes-all}
 use Rattle.stretch.specs.Ascii.{ascii}
 use Rattle.stretch.proofs.Over.{over-tail-front}
 use Rattle.digest.specs.Identifier.{digestText, sha512t24u, sequenceIdentifier}
 use Rattle.digest.proofs.Encoding.{length-identifier}
-use Rattle.refusal.proofs.Writes.{writes-nothing, writes-all}
 use Rattle.digest.proofs.identifier.sequence_identifier.Statement.{statement}
 use Rattle.digest.proofs.identifier.sequence_identifier.Tie as tie
 

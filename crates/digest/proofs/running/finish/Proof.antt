@@ -6,11 +6,11 @@ use mathlib.Core.Path.{_≡_, _∙_, sym}
 use lib.ListN.{length-take, length-drop, length}
 use borrow.Author.Tests.{lt-ltb, le-ltb, ltb-false}
 use borrow.Author.Needs.{needs}
+use Rattle.refusal.proofs.Writes.{writes-nothing, writes-all}
 use Rattle.stretch.specs.Ascii.{ascii}
 use Rattle.stretch.proofs.Over.{over-tail-front}
 use Rattle.digest.specs.Identifier.{digestText}
 use Rattle.digest.proofs.Encoding.{length-identifier}
-use Rattle.refusal.proofs.Writes.{writes-nothing, writes-all}
 use Rattle.digest.proofs.running.finish.Statement.{statement}
 use Rattle.digest.proofs.running.finish.Tie as tie
 

@@ -1,36 +1,42 @@
--- After t turns the state is that of t rounds.
-use Prim.Native.Nat.{_≤_, _-_}
+-- Four rounds to a turn: t goes by fours, and the state is that of t rounds.
+use Prim.Native.Nat.{_+_, _≤_, _-_, _%_}
 use native.Mathlib.Omega.{arith}
 use mathlib.Core.Path.{_≡_, refl}
-use Rattle.sha512.proofs.Step.{round-turn}
 use Rattle.sha512.specs.Block.{rounds}
+use Rattle.sha512.proofs.Step.{round-turn}
 use Rattle.sha512.proofs.block.all_rounds.Statement.{statement}
 use Rattle.sha512.proofs.block.all_rounds.Tie as tie
 
 abbrev Inv-loop : tie.InvT-loop
-Inv-loop w k s₀ t₀ s t = (t ≤ 80) × (s ≡ rounds t w s₀)
+Inv-loop w k s₀ t₀ s t = (t ≤ 80) × ((t % 4 ≡ 0) × (s ≡ rounds t w s₀))
 
 abbrev μ-loop : tie.MeasureT-loop
 μ-loop w k s₀ t₀ s t = 80 - t
 
 loop-holds : tie.Need-loop-holds Inv-loop μ-loop
 unfolding rounds
-loop-holds c = (omega arith, refl)
+loop-holds c = (omega arith, (refl, refl))
 
-mul-one-round : tie.Need-mul-one-round Inv-loop μ-loop
-mul-one-round c = omega arith
+round-at-requires : tie.Need-round-at-requires Inv-loop μ-loop
+round-at-requires c κs = (omega arith, c .before .before .pre)
 
-element-copy-out-one-round : tie.Need-element-copy-out-one-round Inv-loop μ-loop
-element-copy-out-one-round c = omega arith
+add-round-at : tie.Need-add-round-at Inv-loop μ-loop
+add-round-at c = omega arith
 
-mul-one-round-2 : tie.Need-mul-one-round-2 Inv-loop μ-loop
-mul-one-round-2 c = omega arith
+round-at-requires-2 : tie.Need-round-at-requires-2 Inv-loop μ-loop
+round-at-requires-2 c κs = (omega arith, c .before .before .before .pre)
 
-element-copy-out-one-round-2 : tie.Need-element-copy-out-one-round-2 Inv-loop μ-loop
-element-copy-out-one-round-2 c = omega arith
+add-round-at-2 : tie.Need-add-round-at-2 Inv-loop μ-loop
+add-round-at-2 c = omega arith
 
-one-round-requires : tie.Need-one-round-requires Inv-loop μ-loop
-one-round-requires c κs = omega arith
+round-at-requires-3 : tie.Need-round-at-requires-3 Inv-loop μ-loop
+round-at-requires-3 c κs = (omega arith, c .before .before .before .before .pre)
+
+add-round-at-3 : tie.Need-add-round-at-3 Inv-loop μ-loop
+add-round-at-3 c = omega arith
+
+round-at-requires-4 : tie.Need-round-at-requires-4 Inv-loop μ-loop
+round-at-requires-4 c κs = (omega arith, c .before .before .before .before .before .pre)
 
 add-t : tie.Need-add-t Inv-loop μ-loop
 add-t c = omega arith
@@ -39,11 +45,16 @@ loop-less : tie.Need-loop-less Inv-loop μ-loop
 loop-less c = omega arith
 
 loop-again : tie.Need-loop-again Inv-loop μ-loop
-loop-again c = (omega arith, round-turn _ _ _ _ _ (c .before .before .before .before .loop .inv .1) (rw (← c .before .before .before .before .before .pre .1) (c .one-round .ensures)))
+loop-again c =
+    let l = c .before .before .before .before .before .loop in
+    let one = round-turn _ _ _ _ (l .t) (l .t + 1) (omega arith) (l .inv .1 .1) (c .before .before .before .round-at .ensures) in
+    let two = round-turn _ _ _ _ (l .t + 1) (l .t + 2) (omega arith) one (c .before .before .round-at2 .ensures) in
+    let three = round-turn _ _ _ _ (l .t + 2) (l .t + 3) (omega arith) two (c .before .round-at3 .ensures) in
+    (omega arith, (omega arith, round-turn _ _ _ _ (l .t + 3) (l .t + 4) (omega arith) three (c .round-at4 .ensures)))
 
 returns : tie.Need-returns Inv-loop μ-loop
 returns c = let e : c .before .loop .t ≡ 80 = omega arith in
-    rw e at (c .before .loop .inv .1)
+    rw e at (c .before .loop .inv .1 .1)
 
 pub all-rounds-spec : {M : Type 1} → statement M
 all-rounds-spec =
@@ -52,11 +63,13 @@ all-rounds-spec =
     Inv-loop
     μ-loop
     loop-holds
-    mul-one-round
-    element-copy-out-one-round
-    mul-one-round-2
-    element-copy-out-one-round-2
-    one-round-requires
+    round-at-requires
+    add-round-at
+    round-at-requires-2
+    add-round-at-2
+    round-at-requires-3
+    add-round-at-3
+    round-at-requires-4
     add-t
     loop-less
     loop-again

@@ -1,3 +1,4 @@
+-- 182 turns.
 use Prim.Native.Nat.{_≤_, _-_}
 use borrow.Author.Needs.{needs}
 use Rattle.vectors.proofs.published.feed_rounds.Statement.{statement}
