@@ -1,4 +1,4 @@
--- Cut anywhere, a reference has the identifier of the whole.
+-- Wherever a reference is cut into parts, its identifier is that of the whole call.
 use Prim.Native.Nat.{ℕ, _+_, _≤_}
 use native.Mathlib.Omega.{arith}
 use mathlib.Core.Path.{_≡_, refl}

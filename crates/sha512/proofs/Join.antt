@@ -92,7 +92,7 @@ fedAll-is (p ∷ parts) r m f h =
     let n : length (m ++ p) + length (joined parts) ≡ length (m ++ (p ++ joined parts)) = sym (length-append (m ++ p) (joined parts)) ∙ ap length e in
     rw (← e) (fedAll-is parts (fed r p) (m ++ p) (fed-on r m p f (omega arith)) (rw e h))
 
--- cut anywhere, a message has one digest
+-- wherever a message is cut, its digest is one
 pub parts-join : (parts : List (List ℕ)) → length (joined parts) < 2 ^ 64 → finished (fedAll begun parts) ≡ sha512 (joined parts)
 parts-join parts h = finished-is (fedAll begun parts) (joined parts) (fedAll-is parts begun [] fed-begun h)
 

@@ -2,15 +2,12 @@
 use Prim.Native.Nat.{_+_, _≤_}
 use native.Mathlib.Omega.{arith}
 use mathlib.Core.Path.{_≡_, _∙_, sym}
-use mathlib.Core.List.{_++_}
 use lib.ListN.{length, length-take, length-drop}
 use borrow.Author.Tests.{lt-ltb, le-ltb, ltb-false}
 use borrow.Author.Needs.{needs}
 use Rattle.refusal.proofs.Writes.{writes-nothing, writes-all}
-use Rattle.stretch.specs.Ascii.{ascii}
-use Rattle.stretch.proofs.Over.{over-tail-front}
-use Rattle.digest.specs.Identifier.{digestText, sha512t24u, sequenceIdentifier}
-use Rattle.digest.proofs.Encoding.{length-identifier}
+use Rattle.digest.specs.Identifier.{sha512t24u, sequenceIdentifier}
+use Rattle.digest.proofs.Encoding.{length-identifier, identifier-laid}
 use Rattle.digest.proofs.identifier.sequence_identifier.Statement.{statement}
 use Rattle.digest.proofs.identifier.sequence_identifier.Tie as tie
 
@@ -81,7 +78,7 @@ returns-4 c =
     (simp (le-ltb _ _ (g .before .before .if1 .left), ← g .before .first-foreign .ensures, le-ltb _ _ (g .if2 .left), sym (f .before .sum-exceeds .ensures) ∙ f .if3 .left))
     (rw (← b .of-message .ensures) (sym (length-identifier (b .of-message .result) (omega arith))))
     (rw (c .before .before .write-identifier .ensures, ← b .of-message .ensures)
-    (over-tail-front (s .args .out .now) (s .args .place) (ascii "ga4gh:SQ." ++ digestText (b .of-message .result)) (omega (arith, room f, length-identifier (b .of-message .result) (omega arith)))))
+    (identifier-laid (s .args .out .now) (b .of-message .result) (s .args .place) (room f) (omega arith)))
 
 pub sequence-identifier-spec : {M : Type 1} → statement M
 sequence-identifier-spec =

@@ -1,16 +1,12 @@
 -- Each return is what the grounds say, by the tests that led there.
 use Prim.Native.Nat.{_+_, _≤_}
 use native.Mathlib.Omega.{arith}
-use mathlib.Core.List.{_++_}
 use mathlib.Core.Path.{_≡_, _∙_, sym}
 use lib.ListN.{length-take, length-drop, length}
 use borrow.Author.Tests.{lt-ltb, le-ltb, ltb-false}
 use borrow.Author.Needs.{needs}
 use Rattle.refusal.proofs.Writes.{writes-nothing, writes-all}
-use Rattle.stretch.specs.Ascii.{ascii}
-use Rattle.stretch.proofs.Over.{over-tail-front}
-use Rattle.digest.specs.Identifier.{digestText}
-use Rattle.digest.proofs.Encoding.{length-identifier}
+use Rattle.digest.proofs.Encoding.{length-identifier, identifier-laid}
 use Rattle.digest.proofs.running.finish.Statement.{statement}
 use Rattle.digest.proofs.running.finish.Tie as tie
 
@@ -64,7 +60,7 @@ returns-3 c = let b = c .before .before .before .before .before .before in
     writes-all _ _ _ _ 41 _ (simp (le-ltb _ _ (b .before .before .before .if1 .left), sym (b .before .before .sum-exceeds .ensures) ∙ b .before .if2 .left))
     (rw (← b .finish .ensures) (sym (length-identifier (b .finish .result) (omega arith))))
     (rw (c .before .before .write-identifier .ensures, ← b .finish .ensures)
-    (over-tail-front (s .out .now) (s .place) (ascii "ga4gh:SQ." ++ digestText (b .finish .result)) (omega (arith, room (b .before), length-identifier (b .finish .result) (omega arith)))))
+    (identifier-laid (s .out .now) (b .finish .result) (s .place) (room (b .before)) (omega arith)))
 
 pub finish-spec : {M : Type 1} → statement M
 finish-spec =
