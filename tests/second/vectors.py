@@ -37,7 +37,7 @@ def sha512_lines():
         cut = n * 5 // 7
         parts = hashlib.sha512(message[:cut])
         parts.update(message[cut:])
-        yield f"sha512 {n} {whole} {'same' if parts.hexdigest() == whole else 'other'}"
+        yield f"sha512 {n} {whole} {'same' if parts.hexdigest() == whole else 'differs'}"
 
 
 def base64url_lines():

@@ -8,12 +8,11 @@ use mathlib.Core.List.{List, [], _∷_, _++_}
 use lib.Dec.{ltb, eqb}
 use lib.ListN.{length, getD, take, drop, length-append}
 use borrow.Author.Tests.{eqb-true}
-use Rattle.stretch.specs.Ascii.{ascii}
 use Rattle.stretch.specs.Over.{over}
 use Rattle.stretch.proofs.Over.{over-next, over-tail-front}
 use Rattle.stretch.proofs.Cases.{below, below-at}
 use Rattle.digest.specs.Base64.{character, group, encoded}
-use Rattle.digest.specs.Identifier.{digestText}
+use Rattle.digest.specs.Identifier.{digestText, sequencePrefix}
 
 -- the alphabet as five ranges of values
 unfoldable pub ranged : ℕ → ℕ
@@ -62,10 +61,10 @@ pub length-digestText : (d : List ℕ) → 24 ≤ length d → length (digestTex
 unfolding digestText
 length-digestText d h = length-encoded 8 d h
 
-pub length-identifier : (d : List ℕ) → 24 ≤ length d → length (ascii "ga4gh:SQ." ++ digestText d) ≡ 41
+pub length-identifier : (d : List ℕ) → 24 ≤ length d → length (sequencePrefix ++ digestText d) ≡ 41
 length-identifier d h = rw (length-digestText d h)
 
 -- an identifier written into a tail that was lent and comes back
 pub identifier-laid : (out d : List ℕ) (place : ℕ) → place + 41 ≤ length out → 24 ≤ length d
-    → take place out ++ (over (take (length out - place) (drop place out)) 0 (ascii "ga4gh:SQ." ++ digestText d) ++ drop (length out - place) (drop place out)) ≡ over out place (ascii "ga4gh:SQ." ++ digestText d)
-identifier-laid out d place h n = over-tail-front out place (ascii "ga4gh:SQ." ++ digestText d) (omega (arith, length-identifier d n))
+    → take place out ++ (over (take (length out - place) (drop place out)) 0 (sequencePrefix ++ digestText d) ++ drop (length out - place) (drop place out)) ≡ over out place (sequencePrefix ++ digestText d)
+identifier-laid out d place h n = over-tail-front out place (sequencePrefix ++ digestText d) (omega (arith, length-identifier d n))

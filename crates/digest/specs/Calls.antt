@@ -9,11 +9,10 @@ use Rattle.refusal.specs.Verdict.{Ground, ground, verdict, tell, leave}
 use Rattle.refusal.specs.Writes.{outputTooShort, Writes}
 use Rattle.refusal.specs.declared.Outcome.the-variants.{Accepted, Refused}
 use Rattle.refusal.specs.declared.Written.{Written}
-use Rattle.stretch.specs.Ascii.{ascii}
 use Rattle.letters.specs.Letters.{foreign}
 use Rattle.sha512.specs.declared.Running.{Running}
 use Rattle.sha512.specs.Parts.{fed, finished}
-use Rattle.digest.specs.Identifier.{digestText, sequenceIdentifier}
+use Rattle.digest.specs.Identifier.{digestText, sequencePrefix, sequenceIdentifier}
 use Rattle.digest.specs.declared.Fed.{Fed}
 
 -- a whole reference's identifier: 1, 4, 6
@@ -41,7 +40,7 @@ abbrev pub Identifies : List ℕ → List ℕ → ℕ → Written → List ℕ �
 Identifies reference out place = Writes (verdict (wholeGrounds reference (length out) place)) (sequenceIdentifier reference) out place
 
 abbrev pub Finishes : Running → List ℕ → ℕ → Written → List ℕ → Type 0
-Finishes state out place = Writes (verdict (finishGrounds (state .total) (length out) place)) (ascii "ga4gh:SQ." ++ digestText (finished state)) out place
+Finishes state out place = Writes (verdict (finishGrounds (state .total) (length out) place)) (sequencePrefix ++ digestText (finished state)) out place
 
 -- a refused part leaves the state as it was
 abbrev pub unfed : Running → ℕ → ℕ → Fed

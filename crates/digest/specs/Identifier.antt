@@ -13,6 +13,9 @@ digestText d = encoded (take 24 d)
 unfoldable pub sha512t24u : List ℕ → List ℕ
 sha512t24u m = digestText (sha512 m)
 
+abbrev pub sequencePrefix : List ℕ
+sequencePrefix = ascii "ga4gh:SQ."
+
 -- 41 bytes
 unfoldable pub sequenceIdentifier : List ℕ → List ℕ
-sequenceIdentifier residues = ascii "ga4gh:SQ." ++ sha512t24u residues
+sequenceIdentifier residues = sequencePrefix ++ sha512t24u residues

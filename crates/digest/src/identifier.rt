@@ -14,7 +14,9 @@ ghost use mathlib.Core.List.{_++_};
 ghost use Prim.Native.Nat.{_+_, _≤_};
 ghost use lib.ListN.{length};
 ghost use Rattle.stretch.specs.Over.{over};
-ghost use Rattle.digest.specs.Identifier.{digestText};
+ghost use Rattle.refusal.specs.Verdict.{accepted};
+ghost use Rattle.refusal.specs.Writes.{Writes};
+ghost use Rattle.digest.specs.Identifier.{digestText, sequencePrefix};
 ghost use Rattle.digest.specs.Calls.{Identifies};
 
 // The prefix and 32 characters.
@@ -28,6 +30,17 @@ pub fn write_identifier(out: &mut [u8], prefix: &[u8], digest: &[u8])
 {
     copy(out, prefix);
     write_digest_text(&mut out[prefix.len()..], digest);
+}
+
+// Writes the sequence identifier of a digest into `out` from `place` on, where there is room.
+pub fn write_sequence(out: &mut [u8], place: u64, digest: &[u8]) -> Written
+    requires { ⌜ place + 41 ≤ length (now out) ⌝ }
+    requires { ⌜ 24 ≤ length (now digest) ⌝ }
+    ensures { λ r. ⌜ Writes accepted (sequencePrefix ++ digestText (now (digest .entry))) (now (out .entry)) place r (now (out .exit)) ⌝ }
+{
+    let from = place as usize;
+    write_identifier(&mut out[from..], b"ga4gh:SQ.", digest);
+    Written::Bytes(IDENTIFIER_LENGTH)
 }
 
 // Writes the identifier of the residues of `reference` into `out` from `place` on.
@@ -45,7 +58,5 @@ pub fn sequence_identifier(reference: &[u8], out: &mut [u8], place: u64) -> Writ
         return Written::Refused(refuse(OUTPUT_TOO_SHORT, IDENTIFIER_LENGTH));
     }
     let digest = sha512::of_message(reference);
-    let from = place as usize;
-    write_identifier(&mut out[from..], b"ga4gh:SQ.", &digest);
-    Written::Bytes(IDENTIFIER_LENGTH)
+    write_sequence(out, place, &digest)
 }

@@ -1,7 +1,7 @@
 // The running digest of a reference that comes in parts. The state goes in by value and comes back.
 use super::Fed;
 use super::identifier::IDENTIFIER_LENGTH;
-use super::identifier::write_identifier;
+use super::identifier::write_sequence;
 use letters::first_foreign;
 use refusal::FOREIGN_BYTE;
 use refusal::OUTPUT_TOO_SHORT;
@@ -62,7 +62,5 @@ pub fn finish(state: Running, out: &mut [u8], place: u64) -> Written
         return Written::Refused(refuse(OUTPUT_TOO_SHORT, IDENTIFIER_LENGTH));
     }
     let digest = sha512::finish(state);
-    let from = place as usize;
-    write_identifier(&mut out[from..], b"ga4gh:SQ.", &digest);
-    Written::Bytes(IDENTIFIER_LENGTH)
+    write_sequence(out, place, &digest)
 }

@@ -1,17 +1,10 @@
--- A chain of grounds, one ground at a time, and what an accepted call tells of them.
+-- What an accepted call tells of its grounds.
 use Prim.Native.Nat.{ℕ}
 use mathlib.Core.Path.{_≡_, refl}
 use mathlib.Core.Bool.{Bool, true, false}
 use mathlib.Core.List.{List, _∷_}
 use Rattle.refusal.specs.declared.Refusal.{Refusal}
 use Rattle.refusal.specs.Verdict.{Ground, Verdict, accepted, refused, ground, verdict, tell}
-
-module _ (b : Bool) (n v : ℕ) (gs : List Ground) where
-  pub first-holds : b ≡ true → verdict (ground b n v ∷ gs) ≡ refused (record { number = n; value = v })
-  first-holds e = rw e
-
-  pub passes-on : b ≡ false → verdict (ground b n v ∷ gs) ≡ verdict gs
-  passes-on e = rw e
 
 pub passes : (b : Bool) (n v : ℕ) (gs : List Ground) → verdict (ground b n v ∷ gs) ≡ accepted → (b ≡ false) × (verdict gs ≡ accepted)
 passes true n v gs h = (cc, cc)

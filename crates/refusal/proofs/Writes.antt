@@ -1,4 +1,4 @@
--- The promise of a call that writes: met by a refusal, met by a write, and unique.
+-- The promise of a call that writes: met by a refusal, met by a write, handed on by a caller, and unique.
 use Prim.Native.Nat.{ℕ}
 use mathlib.Core.Path.{_≡_}
 use mathlib.Core.List.{List}
@@ -17,6 +17,9 @@ module _ (v : Verdict) (text out : List ℕ) (place : ℕ) where
 
   pub writes-all : (n : ℕ) (left : List ℕ) → v ≡ accepted → n ≡ length text → left ≡ over out place text → Writes v text out place (Bytes n) left
   writes-all n left e long w = record { answers = rw (e, long); leaves = rw e w }
+
+  pub writes-as : (w : Verdict) (same : List ℕ) (answer : Written) (left : List ℕ) → v ≡ w → text ≡ same → Writes w same out place answer left → Writes v text out place answer left
+  writes-as w same answer left e t p = rw (e, t) p
 
   pub writes-once : (a₁ a₂ : Written) (l₁ l₂ : List ℕ) → Writes v text out place a₁ l₁ → Writes v text out place a₂ l₂ → (a₁ ≡ a₂) × (l₁ ≡ l₂)
   writes-once a₁ a₂ l₁ l₂ p q = (one-answer (p .answers) (q .answers), one-answer (p .leaves) (q .leaves))

@@ -1,18 +1,13 @@
 -- Each return is what the grounds say, by the tests that led there.
-use Prim.Native.Nat.{_+_, _≤_}
 use native.Mathlib.Omega.{arith}
 use mathlib.Core.Path.{_≡_, _∙_, sym}
-use lib.ListN.{length, length-take, length-drop}
+use lib.ListN.{length}
 use borrow.Author.Tests.{lt-ltb, le-ltb, ltb-false}
 use borrow.Author.Needs.{needs}
-use Rattle.refusal.proofs.Writes.{writes-nothing, writes-all}
+use Rattle.refusal.proofs.Writes.{writes-nothing, writes-as}
 use Rattle.digest.specs.Identifier.{sha512t24u, sequenceIdentifier}
-use Rattle.digest.proofs.Encoding.{length-identifier, identifier-laid}
 use Rattle.digest.proofs.identifier.sequence_identifier.Statement.{statement}
 use Rattle.digest.proofs.identifier.sequence_identifier.Tie as tie
-
-room : (c : tie.Else3) → c .before .before .before .before .before .before .before .args .place + 41 ≤ length (c .before .before .before .before .before .before .before .args .out .now)
-room c = ltb-false _ _ (sym (c .before .sum-exceeds .ensures) ∙ c .if3 .left)
 
 refuse-requires : tie.Need-refuse-requires
 refuse-requires c κs = search needs
@@ -44,41 +39,24 @@ returns-3 c = let b = c .before .before .before in
 of-message-requires : tie.Need-of-message-requires
 of-message-requires c κs = search needs
 
-sub-write-identifier : tie.Need-sub-write-identifier
-sub-write-identifier c = omega (arith, room (c .before))
+slice-aggregate-write-sequence : tie.Need-slice-aggregate-write-sequence
+slice-aggregate-write-sequence c = search needs
 
-part-write-identifier-start : tie.Need-part-write-identifier-start
-part-write-identifier-start c = omega (arith, room (c .before))
-
-part-write-identifier-end : tie.Need-part-write-identifier-end
-part-write-identifier-end c = search needs
-
-slice-aggregate-write-identifier : tie.Need-slice-aggregate-write-identifier
-slice-aggregate-write-identifier c = search needs
-
-slice-aggregate-write-identifier-2 : tie.Need-slice-aggregate-write-identifier-2
-slice-aggregate-write-identifier-2 c = search needs
-
-write-identifier-requires : tie.Need-write-identifier-requires
-write-identifier-requires c κs = let e : length (c .before .before .before .of-message .result) ≡ 64 = search needs in
-    (rw (length-take, length-drop) (omega (arith, room (c .before .before .before .before))), omega arith)
+write-sequence-requires : tie.Need-write-sequence-requires
+write-sequence-requires c κs = let long : length (c .before .before .of-message .result) ≡ 64 = search needs in
+    (ltb-false _ _ (sym (c .before .before .before .before .sum-exceeds .ensures) ∙ c .before .before .before .if3 .left), omega arith)
 
 same-length : tie.Need-same-length
 same-length c = search needs
 
 returns-4 : tie.Need-returns-4
 unfolding sequenceIdentifier sha512t24u
-returns-4 c =
-    let b = c .before .before .before .before .before .before in
-    let f = b .before in
-    let g = f .before .before in
-    let s = g .before .before .before .before .before in
-    let e : length (b .of-message .result) ≡ 64 = search needs in
-    writes-all _ _ _ _ 41 _
-    (simp (le-ltb _ _ (g .before .before .if1 .left), ← g .before .first-foreign .ensures, le-ltb _ _ (g .if2 .left), sym (f .before .sum-exceeds .ensures) ∙ f .if3 .left))
-    (rw (← b .of-message .ensures) (sym (length-identifier (b .of-message .result) (omega arith))))
-    (rw (c .before .before .write-identifier .ensures, ← b .of-message .ensures)
-    (identifier-laid (s .args .out .now) (b .of-message .result) (s .args .place) (room f) (omega arith)))
+returns-4 c = let b = c .before .before .before .before .before in
+    let g = b .before .before .before in
+    writes-as _ _ _ _ _ _ _ _
+    (simp (le-ltb _ _ (g .before .before .if1 .left), ← g .before .first-foreign .ensures, le-ltb _ _ (g .if2 .left), sym (b .before .before .sum-exceeds .ensures) ∙ b .before .if3 .left))
+    (rw (b .of-message .ensures))
+    (c .before .before .write-sequence .ensures)
 
 pub sequence-identifier-spec : {M : Type 1} → statement M
 sequence-identifier-spec =
@@ -93,11 +71,7 @@ sequence-identifier-spec =
     refuse-requires-3
     returns-3
     of-message-requires
-    sub-write-identifier
-    part-write-identifier-start
-    part-write-identifier-end
-    slice-aggregate-write-identifier
-    slice-aggregate-write-identifier-2
-    write-identifier-requires
+    slice-aggregate-write-sequence
+    write-sequence-requires
     same-length
     returns-4)
