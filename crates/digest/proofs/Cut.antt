@@ -12,8 +12,8 @@ use Rattle.refusal.specs.declared.Outcome.{Outcome}
 use Rattle.refusal.specs.declared.Outcome.the-variants.{Accepted, Refused}
 use Rattle.refusal.specs.declared.Refusal.{Refusal}
 use Rattle.refusal.specs.declared.Written.{Written}
-use Rattle.refusal.specs.Verdict.{accepted, ground, verdict}
-use Rattle.refusal.proofs.Verdict.{passes, tell-accepted}
+use Rattle.refusal.specs.Verdict.{accepted, verdict}
+use Rattle.refusal.proofs.Verdict.{none-holds, tell-accepted}
 use Rattle.letters.specs.Letters.{residue, every, foreign}
 use Rattle.letters.proofs.Class.{every-append}
 use Rattle.letters.proofs.Outside.{foreign-le, foreign-none, firstOutside-every}
@@ -37,12 +37,11 @@ apart r e =
 taken-on : (state : Running) (m part : List ℕ) → Taken state m → feeding state part .outcome ≡ Accepted → Taken (feeding state part .state) (m ++ part)
 taken-on state m part t e =
     let v : verdict (partGrounds (state .total) part) ≡ accepted = tell-accepted Refused _ Accepted apart e in
-    let first = passes (ltb referenceLimit (state .total + length part)) 1 0 (ground (ltb (foreign part) (length part)) 4 (foreign part) ∷ []) v in
-    let second = passes (ltb (foreign part) (length part)) 4 (foreign part) [] (first .1) in
+    let passed = none-holds (partGrounds (state .total) part) v in
     let total : state .total ≡ length m = t .fed-is .total-is in
-    let few : state .total + length part ≤ referenceLimit = ltb-false referenceLimit (state .total + length part) (first .0) in
+    let few : state .total + length part ≤ referenceLimit = ltb-false referenceLimit (state .total + length part) (passed 0) in
     let long : length (m ++ part) ≡ length m + length part = length-append m part in
-    let all : foreign part ≡ length part = omega (arith, ltb-false (foreign part) (length part) (second .0), foreign-le part) in
+    let all : foreign part ≡ length part = omega (arith, ltb-false (foreign part) (length part) (passed 1), foreign-le part) in
     rw v
     (record {
       fed-is = fed-on state m part (t .fed-is) (omega arith);

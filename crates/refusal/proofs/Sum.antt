@@ -15,3 +15,7 @@ told a b limit false h e = sym (le-ltb limit (a + b) (omega (arith, ltb-false (l
 
 pub exceeds-rest : (a b limit : ℕ) → a ≤ limit → ltb (limit - a) b ≡ ltb limit (a + b)
 exceeds-rest a b limit h = told a b limit (ltb (limit - a) b) h refl
+
+-- a place that leaves room for n bytes lies in the buffer
+pub place-within : (room place n : ℕ) → ltb room (place + n) ≡ false → place ≤ room
+place-within room place n t = omega (arith, ltb-false room (place + n) t)

@@ -4,3 +4,7 @@ use Prim.Native.Nat.{ℕ}
 -- residues of a reference, and of all parts of a running digest together
 abbrev pub referenceLimit : ℕ
 referenceLimit = 1_000_000_000
+
+-- letters of a replacement as given
+abbrev pub replacementLimit : ℕ
+replacementLimit = 1_000_000

@@ -26,13 +26,21 @@ pub enum Written {
 
 pub const OVER_LIMIT: u64 = 1;
 
+pub const START_ABOVE_END: u64 = 2;
+
+pub const END_ABOVE_REFERENCE: u64 = 3;
+
 pub const FOREIGN_BYTE: u64 = 4;
+
+pub const FOREIGN_NORMAL_BYTE: u64 = 5;
 
 pub const OUTPUT_TOO_SHORT: u64 = 6;
 
 pub const BAD_DIGEST_TEXT: u64 = 7;
 
 pub const REFERENCE_LIMIT: u64 = 1_000_000_000;
+
+pub const REPLACEMENT_LIMIT: u64 = 1_000_000;
 
 pub fn refuse(number: u64, value: u64) -> Refusal
     ensures { λ r. ⌜ r ≡ record { number = number; value = value } ⌝ }

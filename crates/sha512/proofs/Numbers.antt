@@ -1,24 +1,14 @@
 -- Numbers and their bytes.
-use Prim.Native.Nat.{ℕ, zero, suc, _+_, _-_, _*_, _/_, _%_, _^_, _<_, _≤_}
+use Prim.Native.Nat.{ℕ, zero, suc, _+_, _-_, _*_, _/_, _%_, _<_, _≤_}
 use native.Mathlib.Omega.{arith}
 use native.Mathlib.Numerals.{add-one}
-use native.Mathlib.Nat.{add-zero, zero-add, add-assoc}
 use mathlib.Core.Path.{_≡_, refl, ap, _∙_}
 use mathlib.Core.List.{List, [], _∷_, _++_, append-assoc}
-use lib.ListN.{length, getD, take, drop, set, length-append, length-drop, length-set}
+use lib.ListN.{length, take, drop, set, length-append, length-drop, length-set}
 use lib.Seq.{length-take-le, drop-cons, drop-set-lt, getD-set-same}
 use Rattle.stretch.specs.Over.{over}
 use Rattle.stretch.proofs.Over.{over-next, set-over, length-over}
-use Rattle.sha512.specs.Block.{bigEndian}
 use Rattle.sha512.specs.Message.{bytesOf, fourWords}
-
-pub bigEndian-four : (m : List ℕ) (i : ℕ) → bigEndian 4 m i ≡ ((getD m i 0 * 256 + getD m (i + 1) 0) * 256 + getD m (i + 2) 0) * 256 + getD m (i + 3) 0
-unfolding bigEndian
-bigEndian-four m i = simp (add-zero, zero-add)
-
-pub bigEndian-eight : (m : List ℕ) (i : ℕ) → bigEndian 8 m i ≡ bigEndian 4 m i * 2 ^ 32 + bigEndian 4 m (i + 4)
-unfolding bigEndian
-bigEndian-eight m i = simp (add-assoc, add-zero) (omega arith)
 
 pub length-bytesOf : (n x : ℕ) → length (bytesOf n x) ≡ n
 unfolding bytesOf

@@ -8,7 +8,8 @@ use mathlib.Core.List.{List}
 use lib.ListN.{length, take, drop, set, length-append}
 use lib.Seq.{take-suc-set, getD-take}
 use Rattle.sha512.specs.declared.Hash.{Hash}
-use Rattle.sha512.specs.Block.{bigEndian, blockWords, scheduled, schedule, roundAt, rounds, compressed}
+use Rattle.stretch.specs.BigEndian.{bigEndian}
+use Rattle.sha512.specs.Block.{blockWords, scheduled, schedule, roundAt, rounds, compressed}
 use Rattle.sha512.specs.Message.{absorbed}
 
 pub load-turn : (w b : List ℕ) (t v : ℕ) → t < length w → take t w ≡ blockWords t b → v ≡ bigEndian 8 b (t * 8) → take (t + 1) (set w t v) ≡ blockWords (t + 1) b

@@ -2,14 +2,10 @@
 use Prim.Native.Nat.{ℕ, zero, suc, _+_, _*_}
 use mathlib.Core.List.{List, [], _∷_, _++_}
 use lib.ListN.{getD}
+use Rattle.stretch.specs.BigEndian.{bigEndian}
 use Rattle.sha512.specs.declared.Hash.{Hash}
 use Rattle.sha512.specs.Words.{_⊞_, Ch, Maj, Σ₀, Σ₁, σ₀, σ₁}
 use Rattle.sha512.specs.Constants.{K}
-
--- the number that the n bytes of m from i on make, the most significant first
-unfoldable pub bigEndian : ℕ → List ℕ → ℕ → ℕ
-bigEndian zero m i = 0
-bigEndian (suc n) m i = bigEndian n m i * 256 + getD m (i + n) 0
 
 -- the first n words of a block
 unfoldable pub blockWords : ℕ → List ℕ → List ℕ

@@ -1,6 +1,5 @@
 // The block step: FIPS 180-4, section 6.4.2, with the whole schedule of 80 words.
 use super::Hash;
-use super::big_endian::read_word;
 use super::constants::round_constants;
 use super::words::add;
 use super::words::big_sigma_0;
@@ -9,6 +8,7 @@ use super::words::choose;
 use super::words::majority;
 use super::words::small_sigma_0;
 use super::words::small_sigma_1;
+use stretch::read_word;
 ghost use mathlib.Core.Path.{_≡_};
 ghost use Prim.Native.Nat.{_+_, _<_};
 ghost use lib.ListN.{length, take};

@@ -1,4 +1,9 @@
+pub mod BigEndian
 pub mod Cases
+pub mod Common
+pub mod Interval
 pub mod Over
 pub mod Same
+pub mod Shared
+pub mod Suffix
 pub mod Tail

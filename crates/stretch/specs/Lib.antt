@@ -1,3 +1,6 @@
 pub mod Ascii
+pub mod BigEndian
+pub mod Common
 pub mod Over
+pub mod Part
 pub mod Same

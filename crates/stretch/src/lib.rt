@@ -1,43 +1,12 @@
-// What is said of lent lists once: what a buffer holds after a write, and the code that writes and
-// compares stretches.
-ghost use mathlib.Core.Path.{_≡_};
-ghost use Prim.Native.Nat.{_+_, _≤_};
-ghost use lib.ListN.{length};
-ghost use Rattle.stretch.specs.Over.{over};
-ghost use Rattle.stretch.specs.Same.{same};
+// What is said of lent lists once: what a buffer holds after a write, how far two stretches agree,
+// and the code that writes and compares stretches.
+mod big_endian;
+mod compare;
+mod write;
 
-// Lays `from` over the front of `to`.
-pub fn copy(to: &mut [u8], from: &[u8])
-    requires { ⌜ length (now from) ≤ length (now to) ⌝ }
-    ensures { λ _. ⌜ now (to .exit) ≡ over (now (to .entry)) 0 (now (from .entry)) ⌝ }
-{
-    let mut i = 0;
-    while i < from.len() {
-        to[i] = from[i];
-        i += 1;
-    }
-}
-
-// Lays `from` over `to` from `place` on.
-pub fn copy_at(to: &mut [u8], place: usize, from: &[u8])
-    requires { ⌜ place + length (now from) ≤ length (now to) ⌝ }
-    ensures { λ _. ⌜ now (to .exit) ≡ over (now (to .entry)) place (now (from .entry)) ⌝ }
-{
-    copy(&mut to[place..], from);
-}
-
-pub fn equal(a: &[u8], b: &[u8]) -> bool
-    ensures { λ r. ⌜ r ≡ same (now (a .entry)) (now (b .entry)) ⌝ }
-{
-    if a.len() != b.len() {
-        return false;
-    }
-    let mut i = 0;
-    while i < a.len() {
-        if a[i] != b[i] {
-            return false;
-        }
-        i += 1;
-    }
-    true
-}
+pub use big_endian::read_word;
+pub use compare::common_prefix;
+pub use compare::common_suffix;
+pub use compare::equal;
+pub use write::copy;
+pub use write::copy_at;

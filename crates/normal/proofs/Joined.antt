@@ -1,0 +1,35 @@
+-- Three stretches as one text: its first foreign byte, and how it is laid over a buffer.
+use Prim.Native.Nat.{ℕ, _+_, _<_, _≤_}
+use native.Mathlib.Nat.{zero-add}
+use native.Mathlib.Omega.{arith}
+use mathlib.Core.Path.{_≡_, _∙_, sym, ap}
+use mathlib.Core.List.{List, _++_, append-assoc}
+use lib.ListN.{length, length-append}
+use Rattle.stretch.specs.Over.{over}
+use Rattle.stretch.proofs.Over.{over-next}
+use Rattle.letters.specs.Letters.{residue, foreign}
+use Rattle.letters.proofs.Outside.{foreign-le, foreign-none, firstOutside-past, firstOutside-within}
+
+module _ (a b c : List ℕ) where
+  pub foreign-first : foreign a < length a → foreign a ≡ foreign (a ++ (b ++ c))
+  foreign-first h = sym (firstOutside-within residue a (b ++ c) h)
+
+  foreign-through : (s t : List ℕ) → length s ≤ foreign s → foreign s + foreign t ≡ foreign (s ++ t)
+  foreign-through s t h =
+      let e : foreign s ≡ length s = omega (arith, foreign-le s) in
+      sym (firstOutside-past residue s t (foreign-none s e) ∙ ap (λ (k : ℕ). k + foreign t) (sym e))
+
+  pub foreign-second : length a ≤ foreign a → foreign b < length b → foreign a + foreign b ≡ foreign (a ++ (b ++ c))
+  foreign-second h g = ap (λ (k : ℕ). foreign a + k) (sym (firstOutside-within residue b c g)) ∙ foreign-through a (b ++ c) h
+
+  pub foreign-third : length a ≤ foreign a → length b ≤ foreign b → foreign a + foreign b + foreign c ≡ foreign (a ++ (b ++ c))
+  foreign-third h g =
+      let e : foreign b + foreign c ≡ foreign (b ++ c) = foreign-through b c g in
+      let d : foreign a + foreign (b ++ c) ≡ foreign (a ++ (b ++ c)) = foreign-through a (b ++ c) h in
+      omega arith
+
+  pub over-three : (to : List ℕ) → over (over (over to 0 a) (length a) b) (length a + length b) c ≡ over to 0 (a ++ (b ++ c))
+  over-three to =
+      ap (λ (l : List ℕ). over l (length a + length b) c) (over-next to 0 (length a) a b (omega arith) (omega arith))
+      ∙ over-next to 0 (length a + length b) (a ++ b) c (omega arith) (sym (zero-add (length (a ++ b)) ∙ length-append a b))
+      ∙ ap (over to 0) (append-assoc a b c)

@@ -1,0 +1,92 @@
+-- A stretch with a foreign byte is refused, by the length of the joined text.
+use mathlib.Core.Path.{refl}
+use borrow.Author.Needs.{needs}
+use Rattle.normal.specs.Stretches.{joined}
+use Rattle.normal.proofs.Answers.{clean-refuses, clean-accepts}
+use Rattle.normal.proofs.call.clean.Statement.{statement}
+use Rattle.normal.proofs.call.clean.Tie as tie
+
+sub-first-foreign-of : tie.Need-sub-first-foreign-of
+sub-first-foreign-of c = search needs
+
+part-first-foreign-of-start : tie.Need-part-first-foreign-of-start
+part-first-foreign-of-start c = search needs
+
+part-first-foreign-of-end : tie.Need-part-first-foreign-of-end
+part-first-foreign-of-end c = search needs
+
+sub-first-foreign-of-2 : tie.Need-sub-first-foreign-of-2
+sub-first-foreign-of-2 c = search needs
+
+part-first-foreign-of-start-2 : tie.Need-part-first-foreign-of-start-2
+part-first-foreign-of-start-2 c = search needs
+
+part-first-foreign-of-end-2 : tie.Need-part-first-foreign-of-end-2
+part-first-foreign-of-end-2 c = search needs
+
+sub-first-foreign-of-3 : tie.Need-sub-first-foreign-of-3
+sub-first-foreign-of-3 c = search needs
+
+part-first-foreign-of-start-3 : tie.Need-part-first-foreign-of-start-3
+part-first-foreign-of-start-3 c = search needs
+
+part-first-foreign-of-end-3 : tie.Need-part-first-foreign-of-end-3
+part-first-foreign-of-end-3 c = search needs
+
+first-foreign-of-requires : tie.Need-first-foreign-of-requires
+first-foreign-of-requires c κs = search needs
+
+sub-if1 : tie.Need-sub-if1
+sub-if1 c = search needs
+
+sub-if1-2 : tie.Need-sub-if1-2
+sub-if1-2 c = search needs
+
+add-if1 : tie.Need-add-if1
+add-if1 c = search needs
+
+sub-if1-3 : tie.Need-sub-if1-3
+sub-if1-3 c = search needs
+
+add-if1-2 : tie.Need-add-if1-2
+add-if1-2 c = search needs
+
+refuse-requires : tie.Need-refuse-requires
+refuse-requires c κs = search needs
+
+returns : tie.Need-returns
+unfolding joined
+returns c =
+    let b = c .before .before in
+    let s = b .before .before .before .before .before .before in
+    rw (c .refuse .ensures) (clean-refuses _ _ _ _ (s .args .w) (s .pre) _ refl _ (b .first-foreign-of .ensures) (c .before .if1 .taken))
+
+returns-2 : tie.Need-returns-2
+unfolding joined
+returns-2 c =
+    let b = c .before in
+    let s = b .before .before .before .before .before .before in
+    clean-accepts _ _ _ _ (s .args .w) (s .pre) _ refl (rw (b .first-foreign-of .ensures) at (c .if1 .left))
+
+pub clean-spec : {M : Type 1} → statement M
+clean-spec =
+    tie.close
+    (tie.spec
+    sub-first-foreign-of
+    part-first-foreign-of-start
+    part-first-foreign-of-end
+    sub-first-foreign-of-2
+    part-first-foreign-of-start-2
+    part-first-foreign-of-end-2
+    sub-first-foreign-of-3
+    part-first-foreign-of-start-3
+    part-first-foreign-of-end-3
+    first-foreign-of-requires
+    sub-if1
+    sub-if1-2
+    add-if1
+    sub-if1-3
+    add-if1-2
+    refuse-requires
+    returns
+    returns-2)

@@ -1,0 +1,51 @@
+// The fully justified normal form of an allele on a lent reference (document 01, "The normal form").
+//
+// specs/Form.antt has the form over the reference and the altered sequence, specs/Stretches.antt its
+// replacement as three stretches, and specs/Calls.antt what the calls promise.
+mod call;
+mod engine;
+mod roll;
+mod three;
+
+pub use call::locate;
+pub use call::locate_clean;
+pub use call::normal_form;
+pub use three::copy_three;
+pub use three::first_foreign_of;
+
+pub enum Kind {
+    Unchanged,
+    Substitution,
+    Indel,
+}
+
+// A normal form, with the length of its replacement.
+pub struct Form {
+    pub kind: Kind,
+    pub start: u64,
+    pub end: u64,
+    pub length: u64,
+}
+
+pub enum Normalised {
+    Accepted(Form),
+    Refused(refusal::Refusal),
+}
+
+// A normal form, with its replacement as three stretches: of the reference from `left` to the start
+// given, of the replacement given between `from` and `to`, of the reference from the end given to
+// `right`.
+pub struct Stretches {
+    pub kind: Kind,
+    pub start: usize,
+    pub end: usize,
+    pub left: usize,
+    pub from: usize,
+    pub to: usize,
+    pub right: usize,
+}
+
+pub enum Located {
+    Accepted(Stretches),
+    Refused(refusal::Refusal),
+}

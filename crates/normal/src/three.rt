@@ -1,0 +1,36 @@
+// Three stretches that lie apart and are one text.
+use letters::first_foreign;
+use stretch::copy;
+use stretch::copy_at;
+ghost use mathlib.Core.Path.{_≡_};
+ghost use mathlib.Core.List.{_++_};
+ghost use Prim.Native.Nat.{_+_, _^_, _<_, _≤_};
+ghost use lib.ListN.{length};
+ghost use Rattle.stretch.specs.Over.{over};
+ghost use Rattle.letters.specs.Letters.{foreign};
+
+// The offset of the first byte of the text that is no residue, or its length where there is none.
+pub fn first_foreign_of(a: &[u8], b: &[u8], c: &[u8]) -> usize
+    requires { ⌜ length (now a) + (length (now b) + length (now c)) < 2 ^ 64 ⌝ }
+    ensures { λ r. ⌜ r ≡ foreign (now (a .entry) ++ (now (b .entry) ++ now (c .entry))) ⌝ }
+{
+    let x = first_foreign(a);
+    if x < a.len() {
+        return x;
+    }
+    let y = first_foreign(b);
+    if y < b.len() {
+        return x + y;
+    }
+    x + y + first_foreign(c)
+}
+
+// Lays the text over the front of `to`.
+pub fn copy_three(to: &mut [u8], a: &[u8], b: &[u8], c: &[u8])
+    requires { ⌜ length (now a) + (length (now b) + length (now c)) ≤ length (now to) ⌝ }
+    ensures { λ _. ⌜ now (to .exit) ≡ over (now (to .entry)) 0 (now (a .entry) ++ (now (b .entry) ++ now (c .entry))) ⌝ }
+{
+    copy(to, a);
+    copy_at(to, a.len(), b);
+    copy_at(to, a.len() + b.len(), c);
+}
