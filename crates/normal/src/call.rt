@@ -53,13 +53,13 @@ fn clean(reference: &[u8], start: usize, end: usize, replacement: &[u8], w: Stre
     let from = w.from;
     let to = w.to;
     let right = w.right;
-    let foreign = first_foreign_of(
+    let first = first_foreign_of(
         &reference[left..start],
         &replacement[from..to],
         &reference[end..right],
     );
-    if foreign < start - left + (to - from) + (right - end) {
-        return Located::Refused(refuse(FOREIGN_NORMAL_BYTE, foreign as u64));
+    if first < start - left + (to - from) + (right - end) {
+        return Located::Refused(refuse(FOREIGN_NORMAL_BYTE, first as u64));
     }
     Located::Accepted(w)
 }
