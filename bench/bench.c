@@ -1,6 +1,7 @@
 /*
- * Times ours and the plain C in one run, turn by turn, keeps the best of each, and prints ratios: a
- * ratio is the plain time divided by ours, so 1.00 is as fast and more is faster.
+ * Times ours and the plain C in one run, turn by turn, keeps the best of each, and prints tables. The
+ * time is the processor's, so that other programs disturb it less. A ratio is a row's time divided by
+ * that of the first row of its table: 1.00 is as fast, more is slower.
  *
  * An argument is the bytes a second of OpenSSL's SHA-512, as bench/run has measured it.
  */
@@ -14,52 +15,149 @@ struct timespec {
 int clock_gettime(int clock, struct timespec *now);
 int printf(const char *format, ...);
 double atof(const char *text);
+void *memcpy(void *to, const void *from, size_t count);
+void *memset(void *at, int byte, size_t count);
+_Noreturn void exit(int status);
 
-enum { CLOCK_MONOTONIC = 1, MEGABYTES = 64, BYTES = MEGABYTES << 20, TURNS = 5 };
+enum { CLOCK_PROCESS_CPUTIME_ID = 2, TURNS = 5 };
+enum { MEGABYTES = 64, BYTES = MEGABYTES << 20 };
+enum { SHORT = 10 * 1000, LONG = 10 * 1000 * 1000, FORMS = 100 * 1000 };
+enum { LONGEST_ROLL = 100 * 1000, ROLLED = 20 * 1000 * 1000 };
 
-static uint8_t reference[BYTES];
-static uint8_t out[41], digest[64];
+typedef struct {
+    const char *name;
+    void (*work)(void);
+    double best; /* nanoseconds */
+} row;
+
+static uint8_t twice[2 * BYTES]; /* the same random residues two times */
+static uint8_t short_reference[SHORT], long_reference[LONG], same[LONGEST_ROLL + 1];
+static uint8_t out[LONGEST_ROLL], digest[64];
+static const uint8_t nothing[1];
+static size_t found;
 
 static double now(void) {
     struct timespec t;
-    clock_gettime(CLOCK_MONOTONIC, &t);
+    clock_gettime(CLOCK_PROCESS_CPUTIME_ID, &t);
     return (double)t.seconds * 1e9 + (double)t.nanoseconds;
 }
 
-static void ours(void) { fv_sequence_identifier(reference, BYTES, out, sizeof out, 0); }
-static void plain_digest(void) { plain_sha512(reference, BYTES, digest); }
-static void plain_test(void) { out[0] = plain_letters(reference, BYTES) == BYTES; }
-
-static void time_best(void (*work)(void), double *best) {
-    double began = now();
-    work();
-    double took = now() - began;
-    if (*best == 0 || took < *best) *best = took;
+/* A time is worth nothing where the work was not the work that its row names. */
+static void hold(int as_expected) {
+    if (as_expected) return;
+    printf("bench: an answer is not the one expected\n");
+    exit(1);
 }
 
-static void row(const char *name, double took, double our_time) {
-    printf("%-40s %9.1f ms %8.2f\n", name, took / 1e6, took / our_time);
+/* The identifier of 64 MB, and its two halves in plain C. */
+static void identifier(void) { hold(fv_sequence_identifier(twice, BYTES, out, 41, 0).length == 41); }
+static void plain_digest(void) { plain_sha512(twice, BYTES, digest); }
+static void plain_test(void) { hold(plain_letters(twice, BYTES) == BYTES); }
+
+/*
+ * One of two equal halves of 64 MB goes, so that the change rolls over the whole other one: to the
+ * right, which is a common prefix of the two, or to the left, a common suffix. Where the half begins
+ * with a foreign byte, refusal 5 ends the call there, and the roll is all that it has done. Where it
+ * does not, all of it is tested, and refusal 6 ends the call before anything is written.
+ */
+static void first_half_goes(uint8_t first, uint64_t refusal) {
+    twice[0] = twice[BYTES] = first;
+    hold(fv_normal_form(twice, sizeof twice, 0, BYTES, nothing, 0, out, 0, 0).refusal == refusal);
+}
+static void second_half_goes(uint8_t first, uint64_t refusal) {
+    twice[0] = twice[BYTES] = first;
+    hold(fv_normal_form(twice, sizeof twice, BYTES, sizeof twice, nothing, 0, out, 0, 0).refusal == refusal);
+}
+static void roll_right(void) { first_half_goes('a', 5); }
+static void roll_left(void) { second_half_goes('a', 5); }
+static void roll_right_and_test(void) { first_half_goes('A', 6); }
+static void roll_left_and_test(void) { second_half_goes('A', 6); }
+static void plain_prefix(void) { found = plain_common_prefix(twice, twice + BYTES, BYTES); }
+static void plain_suffix(void) { found = plain_common_suffix(twice, twice + BYTES, BYTES); }
+static void plain_prefix_and_test(void) { plain_prefix(), plain_test(); }
+static void plain_suffix_and_test(void) { plain_suffix(), plain_test(); }
+
+/* The same insertion into the same repeat, in the middle of a short and of a long reference. */
+static void forms(const uint8_t *reference, size_t length) {
+    const uint8_t *unit = reference + length / 2;
+    uint64_t spot = length / 2 + 3;
+    for (int i = 0; i < FORMS; i++)
+        hold(fv_normal_form(reference, length, spot, spot, unit, 3, out, sizeof out, 0).length == 12);
+}
+static void forms_on_short(void) { forms(short_reference, SHORT); }
+static void forms_on_long(void) { forms(long_reference, LONG); }
+
+/* One residue goes from the middle of a run, and the change rolls over all others: as many in each
+   row, in more or fewer calls. */
+static void rolls(size_t length) {
+    uint64_t spot = length / 2;
+    for (size_t i = 0; i < ROLLED / length; i++)
+        hold(fv_normal_form(same, length + 1, spot, spot + 1, nothing, 0, out, sizeof out, 0).length == length);
+}
+static void rolls_of_1000(void) { rolls(1000); }
+static void rolls_of_10000(void) { rolls(10000); }
+static void rolls_of_100000(void) { rolls(100000); }
+
+static void show(const char *name, double took, double first) {
+    printf("%-46s %9.1f ms %8.2f\n", name, took / 1e6, took / first);
+}
+
+static void table(const char *title, row *rows, int count) {
+    for (int turn = 0; turn < TURNS; turn++)
+        for (int i = 0; i < count; i++) {
+            double began = now();
+            rows[i].work();
+            double took = now() - began;
+            if (turn == 0 || took < rows[i].best) rows[i].best = took;
+        }
+    printf("\n%-46s %12s %8s\n", title, "time", "ratio");
+    for (int i = 0; i < count; i++) show(rows[i].name, rows[i].best, rows[0].best);
+}
+#define TABLE(title, rows) table(title, rows, sizeof(rows) / sizeof *(rows))
+
+static void fill(uint8_t *text, size_t length) {
+    uint32_t x = 1;
+    for (size_t i = 0; i < length; i++) {
+        x = x * 1664525 + 1013904223;
+        text[i] = (uint8_t)("ACGT"[x >> 30]);
+    }
 }
 
 int main(int count, char **words) {
-    uint32_t x = 1;
-    for (size_t i = 0; i < BYTES; i++) {
-        x = x * 1664525 + 1013904223;
-        reference[i] = (uint8_t)("ACGT"[x >> 30]);
-    }
+    fill(twice, BYTES);
+    memcpy(twice + BYTES, twice, BYTES);
+    fill(short_reference, SHORT);
+    memcpy(short_reference + SHORT / 2 - 1, "TCAGCAGCAGT", 11);
+    fill(long_reference, LONG);
+    memcpy(long_reference + (LONG - SHORT) / 2, short_reference, SHORT);
+    memset(same, 'A', sizeof same);
 
-    double our_time = 0, digest_time = 0, test_time = 0;
-    for (int turn = 0; turn < TURNS; turn++) {
-        time_best(ours, &our_time);
-        time_best(plain_digest, &digest_time);
-        time_best(plain_test, &test_time);
-    }
+    printf("best of %d\n", TURNS);
+    row identifiers[] = {{"fv_sequence_identifier", identifier, 0},
+                         {"plain C SHA-512", plain_digest, 0},
+                         {"plain C letter test", plain_test, 0}};
+    TABLE("identifier of 64 MB", identifiers);
+    double ours = identifiers[0].best;
+    show("plain C SHA-512 and letter test", identifiers[1].best + identifiers[2].best, ours);
+    if (count > 1) show("OpenSSL SHA-512", BYTES / atof(words[1]) * 1e9, ours);
 
-    printf("%d MB of residues, best of %d %25s %8s\n", MEGABYTES, TURNS, "time", "ratio");
-    row("fv_sequence_identifier", our_time, our_time);
-    row("plain C SHA-512", digest_time, our_time);
-    row("plain C letter test", test_time, our_time);
-    row("plain C SHA-512 and letter test", digest_time + test_time, our_time);
-    if (count > 1) row("OpenSSL SHA-512", BYTES / atof(words[1]) * 1e9, our_time);
+    row right[] = {{"fv_normal_form, refused under 5", roll_right, 0}, {"plain C common prefix", plain_prefix, 0}};
+    TABLE("roll to the right over 64 MB", right);
+    row left[] = {{"fv_normal_form, refused under 5", roll_left, 0}, {"plain C common suffix", plain_suffix, 0}};
+    TABLE("roll to the left over 64 MB", left);
+    row right_and_test[] = {{"fv_normal_form, refused under 6", roll_right_and_test, 0},
+                            {"plain C common prefix and letter test", plain_prefix_and_test, 0}};
+    TABLE("roll to the right over 64 MB, and letters", right_and_test);
+    row left_and_test[] = {{"fv_normal_form, refused under 6", roll_left_and_test, 0},
+                           {"plain C common suffix and letter test", plain_suffix_and_test, 0}};
+    TABLE("roll to the left over 64 MB, and letters", left_and_test);
+
+    row references[] = {{"on a reference of 10 thousand", forms_on_short, 0},
+                        {"on a reference of 10 million", forms_on_long, 0}};
+    TABLE("100 thousand normal forms", references);
+    row lengths[] = {{"of 1,000 residues each", rolls_of_1000, 0},
+                     {"of 10,000 residues each", rolls_of_10000, 0},
+                     {"of 100,000 residues each", rolls_of_100000, 0}};
+    TABLE("rolls, 20 million residues in all", lengths);
     return 0;
 }

@@ -49,6 +49,54 @@ typedef struct {
 fv_written fv_sequence_identifier(const uint8_t *reference, size_t reference_len,
                                   uint8_t *out, size_t out_len, uint64_t place);
 
+/* A normal form. Where the call is refused, all that follows `value` is 0. */
+typedef struct {
+    uint64_t refusal;
+    uint64_t value;
+    uint64_t kind;   /* 0 unchanged, 1 substitution, 2 indel */
+    uint64_t start;
+    uint64_t end;
+    uint64_t length; /* of the normal replacement: how many bytes the call wrote */
+} fv_form;
+
+/*
+ * Answers the fully justified normal form of an allele, and writes its replacement from out[place] on.
+ *
+ * An allele puts a replacement in the place of the residues between two positions of a reference:
+ * position 0 is before the first residue, reference_len after the last. The reference may be empty,
+ * start and end may be equal (an insertion), and the replacement may be empty (a deletion).
+ *
+ * The normal form is taken from the sequence that results: what that has in common with the reference
+ * at either end is left out, but an insertion or a deletion that might stand at several places of a
+ * repeat covers them all. So two alleles that make the same sequence, other than the reference itself,
+ * have the same normal form. An allele that changes nothing is answered as it was given, with kind 0.
+ *
+ * The normal replacement has `length` bytes; the bytes of `out` before and after them stay as they
+ * were. Where it is empty nothing is written, and a place right behind the last byte of `out` will do.
+ * Residues are bytes from A to Z. Of the reference, only the bytes that come into the normal
+ * replacement need to be residues. The time grows with what is trimmed, rolled over and written, not
+ * with the length of the reference.
+ *
+ * Accepted: { 0, 0, kind, start, end, length }. Refused, in this order:
+ *   1, value 0    the reference has over 1,000,000,000 bytes;
+ *   1, value 1    the replacement has over 1,000,000 bytes;
+ *   2, value 0    start is above end;
+ *   3, value n    end is above n, the length of the reference;
+ *   4, value i    replacement[i] is not a residue, and no byte before it is foreign;
+ *   5, value i    byte i of the normal replacement is not a residue, and no byte before it is foreign;
+ *   6, value l    the normal replacement has l bytes, and `out` has fewer from `place` on, or `place`
+ *                 is past its end.
+ * No `start`, `end` or `place` is too large to be refused so. A call with an `out` of 0 bytes and
+ * place 0 learns the length that is needed: from value where it is refused, and it is 0 where not.
+ *
+ * With the reference `TCAGCAGCAGT`, start 4, end 4, the replacement `CAG`, place 0 and room for 12
+ * bytes, the answer is { 0, 0, 2, 1, 10, 12 }, and `out` then holds
+ * CAGCAGCAGCAG
+ */
+fv_form fv_normal_form(const uint8_t *reference, size_t reference_len, uint64_t start, uint64_t end,
+                       const uint8_t *replacement, size_t replacement_len,
+                       uint8_t *out, size_t out_len, uint64_t place);
+
 #ifdef __cplusplus
 }
 #endif

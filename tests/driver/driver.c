@@ -48,7 +48,8 @@ typedef struct {
 } call;
 
 static const call calls[] = {
-    {'s', 1, "rw"}, /* fv_sequence_identifier: place; reference, out */
+    {'s', 1, "rw"},  /* fv_sequence_identifier: place; reference, out */
+    {'n', 3, "rrw"}, /* fv_normal_form: start, end, place; reference, replacement, out */
 };
 
 /* Makes the call and answers how many numbers it left in a. */
@@ -58,6 +59,12 @@ static int make(char code, const uint64_t *n, const slice *s, uint64_t *a) {
         fv_written w = fv_sequence_identifier(s[0].at, s[0].length, s[1].at, s[1].length, n[0]);
         a[0] = w.refusal, a[1] = w.value, a[2] = w.length;
         return 3;
+    }
+    case 'n': {
+        fv_form f = fv_normal_form(s[0].at, s[0].length, n[0], n[1], s[1].at, s[1].length,
+                                   s[2].at, s[2].length, n[2]);
+        a[0] = f.refusal, a[1] = f.value, a[2] = f.kind, a[3] = f.start, a[4] = f.end, a[5] = f.length;
+        return 6;
     }
     }
     return 0;

@@ -12,6 +12,8 @@ from typing import NamedTuple
 # One run of the driver makes this many calls, while the next as many are being made up.
 CALLS_IN_A_RUN = 20_000
 UNTOUCHED = 1 << 63
+# So many characters of a slice are shown where an answer disagrees.
+SHOWN = 2000
 
 
 class Untouched:
@@ -67,7 +69,7 @@ def show(case):
     for x in case.numbers:
         print(f"  number    {x}")
     for x in case.slices:
-        print(f"  slice     {len(x)}: {x!r}")
+        print(f"  slice     {len(x)}: {x!r:.{SHOWN}}")
     print(f"  expected  {list(case.answer)}")
 
 
@@ -78,8 +80,8 @@ def show_difference(case, got):
     if harm != 0:
         print(f"  slice {harm} was changed where the call may not write")
     if lent != wanted:
-        print(f"  lent bytes expected  {wanted!r}")
-        print(f"  lent bytes found     {lent!r}")
+        print(f"  lent bytes expected  {wanted!r:.{SHOWN}}")
+        print(f"  lent bytes found     {lent!r:.{SHOWN}}")
 
 
 def start(command, cases):

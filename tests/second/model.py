@@ -4,14 +4,29 @@ The digests are hashlib's and base64's. A refusal is its number and its value; (
 """
 import base64
 import hashlib
+from typing import NamedTuple
 
 REFERENCE_LIMIT = 1_000_000_000
+REPLACEMENT_LIMIT = 1_000_000
 IDENTIFIER_LENGTH = 41
 DIGEST_LENGTH = 32
 RESIDUES = frozenset(b"ABCDEFGHIJKLMNOPQRSTUVWXYZ")
 BASE64URL = frozenset(b"ABCDEFGHIJKLMNOPQRSTUVWXYZabcdefghijklmnopqrstuvwxyz0123456789-_")
 
 ACCEPTED = (0, 0)
+
+# A kind is its number in the C library; KINDS has its name.
+UNCHANGED, SUBSTITUTION, INDEL = range(3)
+KINDS = ("unchanged", "substitution", "indel")
+
+
+class Form(NamedTuple):
+    """A normal form."""
+
+    kind: int
+    start: int
+    end: int
+    replacement: bytes
 
 
 def first_outside(alphabet, text):
@@ -72,3 +87,65 @@ def digest_text(text):
     if foreign is not None:
         return 7, foreign
     return ACCEPTED
+
+
+def common_prefix(one, other):
+    """The length of the longest common prefix."""
+    shorter = min(len(one), len(other))
+    return next((i for i in range(shorter) if one[i] != other[i]), shorter)
+
+
+def common_suffix(one, other):
+    """The length of the longest common suffix."""
+    return common_prefix(one[::-1], other[::-1])
+
+
+def form(reference, start, end, replacement):
+    """The normal form of an allele that nothing speaks against: both whole sequences are compared, from
+    either end, and the two lengths may overlap."""
+    altered = reference[:start] + replacement + reference[end:]
+    if altered == reference:
+        return Form(UNCHANGED, start, end, replacement)
+    n, m = len(reference), len(altered)
+    p, q, k = common_prefix(reference, altered), common_suffix(reference, altered), min(n, m)
+    a, b = min(p, max(k - q, 0)), min(q, max(k - p, 0))
+    return Form(SUBSTITUTION if p + q < k else INDEL, a, n - b, altered[a:m - b])
+
+
+def offered(reference, start, end, replacement):
+    """An allele is given on a reference: the refusals that come before its normal form."""
+    if len(reference) > REFERENCE_LIMIT:
+        return 1, 0
+    if len(replacement) > REPLACEMENT_LIMIT:
+        return 1, 1
+    if start > end:
+        return 2, 0
+    if end > len(reference):
+        return 3, len(reference)
+    foreign = first_outside(RESIDUES, replacement)
+    if foreign is not None:
+        return 4, foreign
+    return ACCEPTED
+
+
+def formed(reference, start, end, replacement):
+    """Refusal, value, and the normal form, None where refused. Nothing is written, so there is no refusal 6."""
+    refusal, value = offered(reference, start, end, replacement)
+    if refusal != 0:
+        return refusal, value, None
+    normal = form(reference, start, end, replacement)
+    foreign = first_outside(RESIDUES, normal.replacement)
+    if foreign is not None:
+        return 5, foreign, None
+    return *ACCEPTED, normal
+
+
+def normal_form(reference, start, end, replacement, out, place):
+    """Refusal, value, kind, start, end, length of the normal replacement, and the buffer afterwards."""
+    refusal, value, normal = formed(reference, start, end, replacement)
+    if refusal == 0 and no_room(len(out), place, len(normal.replacement)):
+        refusal, value = 6, len(normal.replacement)
+    if refusal != 0:
+        return refusal, value, 0, 0, 0, 0, out
+    kind, start, end, text = normal
+    return 0, 0, kind, start, end, len(text), written(out, place, text)

@@ -91,6 +91,33 @@ def digest_text_lines():
         yield f"digest-text {shown(text)} " + outcome(*model.digest_text(text), "taken")
 
 
-for lines in (sha512_lines, base64url_lines, identifier_lines, running_lines, parts_lines, digest_text_lines):
+def normal_form_lines():
+    repeat = b"TCAGCAGCAGT"
+    for reference, start, end, replacement, place, room in (
+        # document 01's worked alleles
+        (repeat, 4, 4, b"CAG", 2, 16), (repeat, 1, 2, b"CAGC", 2, 16), (repeat, 1, 4, b"", 2, 16),
+        (repeat, 2, 3, b"T", 2, 16), (repeat, 1, 5, b"CTGC", 2, 16), (repeat, 3, 5, b"TTT", 2, 16),
+        (repeat, 0, 0, b"T", 2, 16), (repeat, 11, 11, b"A", 2, 16), (repeat, 0, 11, b"", 2, 16),
+        (repeat, 1, 4, b"CAG", 2, 16), (repeat, 2, 2, b"", 2, 16), (b"", 0, 0, b"ACGT", 0, 16),
+        (repeat, 9, 4, b"A", 2, 16), (repeat, 4, 11, b"A", 2, 16), (repeat, 4, 12, b"A", 2, 16),
+        # positions, letters given, letters of the reference, rooms
+        (repeat, 12, 12, b"a", 2, 16), (repeat, LAST_U64, 11, b"A", 2, 16), (repeat, LAST_U64, LAST_U64, b"A", 2, 16),
+        (b"", 0, 1, b"", 0, 16),
+        (repeat, 4, 11, b"A[", 2, 16), (repeat, 4, 11, b"@A", 2, 16), (repeat, 5, 4, b"@A", 2, 16),
+        (b"TxxT", 1, 2, b"", 0, 16), (b"TAxAxAT", 2, 4, b"", 0, 16), (b"AxC", 1, 2, b"", 0, 16),
+        (b"TxxT", 1, 3, b"A", 0, 16), (b"TxxT", 1, 2, b"", 0, 0),
+        (repeat, 4, 4, b"CAG", 4, 16), (repeat, 4, 4, b"CAG", 5, 16), (repeat, 4, 4, b"CAG", 0, 11),
+        (repeat, 4, 4, b"CAG", LAST_U64, 16),
+        (repeat, 0, 11, b"", 16, 16), (repeat, 0, 11, b"", 17, 16), (repeat, 0, 11, b"", 0, 0),
+    ):
+        given = f"{shown(reference)} {start} {end} {shown(replacement)} place {place} room {room}"
+        refusal, value, kind, *interval, length, out = model.normal_form(
+            reference, start, end, replacement, bytes(room), place)
+        formed = "formed {} {} {} {}".format(*interval, model.KINDS[kind], shown(out[place:place + length]))
+        yield f"normal-form {given} " + outcome(refusal, value, formed)
+
+
+for lines in (sha512_lines, base64url_lines, identifier_lines, running_lines, parts_lines, digest_text_lines,
+              normal_form_lines):
     for line in lines():
         print(line)

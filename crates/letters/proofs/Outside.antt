@@ -9,6 +9,7 @@ use mathlib.Core.List.{List, [], _∷_, _++_}
 use lib.ListN.{length, getD, take, drop, length-drop, take-append-drop, drop-of-length-le}
 use lib.Seq.{drop-cons, drop-drop, length-take-le}
 use Rattle.stretch.proofs.Cases.{by-cases}
+use Rattle.stretch.proofs.Tail.{lent-tail}
 use Rattle.letters.specs.Letters.{residue, every, firstOutside, foreign}
 
 module _ (p : ℕ → Bool) where
@@ -72,6 +73,14 @@ module _ (p : ℕ → Bool) where
       = ap (firstOutside p) (sym (take-append-drop n (drop i s))) ∙ firstOutside-past (take n (drop i s)) (drop n (drop i s)) (rw (add-sub-cancel-left i n) at e)
       ∙ rw (length-take-le n (drop i s) room, drop-drop) in
       omega arith
+
+  -- and all that is left, as the code lends it
+  pub firstOutside-rest : (s : List ℕ) (i : ℕ) → i ≤ length s → every p (take (length s - i) (drop i s)) ≡ true
+      → firstOutside p s ≡ i + firstOutside p (drop i s) → firstOutside p s ≡ length s + firstOutside p (drop (length s) s)
+  unfolding firstOutside
+  firstOutside-rest s i h e inv =
+      inv
+      ∙ rw (firstOutside-every (drop i s) (rw (lent-tail s i) at e), length-drop i s, drop-of-length-le s {i = length s} (omega arith)) (omega arith)
 
 pub foreign-le : (s : List ℕ) → foreign s ≤ length s
 foreign-le = firstOutside-le residue

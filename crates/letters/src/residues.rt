@@ -27,7 +27,7 @@ fn all_residues(s: &[u8]) -> bool
     all
 }
 
-// How many bytes lie in the whole blocks of residues that `s` begins with.
+// How many bytes lie in the blocks of residues that `s` begins with; its last block may be shorter.
 fn clean_blocks(s: &[u8]) -> usize
     ensures { λ r. ⌜ r ≤ length (now (s .entry)) ⌝ }
     ensures { λ r. ⌜ foreign (now (s .entry)) ≡ r + foreign (drop r (now (s .entry))) ⌝ }
@@ -38,6 +38,9 @@ fn clean_blocks(s: &[u8]) -> usize
             return i;
         }
         i += BLOCK;
+    }
+    if all_residues(&s[i..]) {
+        return s.len();
     }
     i
 }

@@ -1,28 +1,18 @@
 // Identifiers of whole references, in buffers with and without room for them.
 use crate::print::labelled;
+use crate::print::part;
 use crate::print::shown;
 use crate::print::text;
 use crate::print::written;
 use refusal::Written;
 ghost use Prim.Native.Nat.{_≤_};
 
-// The bytes that were written, as they stand in `out` from `place` on; nothing where the answer
-// counts past its end.
 fn written_text(out: &[u8], place: u64, answer: Written) {
     let Written::Bytes(count) = answer else {
         return;
     };
-    let room = out.len() as u64;
-    if room < place {
-        return;
-    }
-    if room - place < count {
-        return;
-    }
-    let from = place as usize;
-    let end = (place + count) as usize;
     text(b" ");
-    text(&out[from..end]);
+    part(out, place, count);
 }
 
 fn line(reference: &[u8], out: &mut [u8], place: u64) {

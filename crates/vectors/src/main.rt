@@ -1,5 +1,6 @@
 // Prints test vectors, a line each. They have to be those of the file stdout, which a second program
 // makes, tests/second/vectors.py, with digests and base64url that are not ours.
+mod alleles;
 mod digest_texts;
 mod encodings;
 mod identifiers;
@@ -15,4 +16,5 @@ fn main() {
     identifiers::lines();
     running::lines();
     digest_texts::lines();
+    alleles::lines();
 }

@@ -17,6 +17,20 @@ pub fn shown(s: &[u8]) {
     }
 }
 
+// So many bytes of `out` from `place` on; nothing where that is past its end.
+pub fn part(out: &[u8], place: u64, count: u64) {
+    let room = out.len() as u64;
+    if room < place {
+        return;
+    }
+    if room - place < count {
+        return;
+    }
+    let from = place as usize;
+    let end = (place + count) as usize;
+    shown(&out[from..end]);
+}
+
 pub fn labelled(label: &[u8], n: u64) {
     text(label);
     io::print_decimal(STDOUT_FILENO, n);
@@ -32,7 +46,7 @@ pub fn hex(s: &[u8]) {
     }
 }
 
-fn refused(r: Refusal) {
+pub fn refused(r: Refusal) {
     labelled(b" refused ", r.number);
     labelled(b" ", r.value);
 }

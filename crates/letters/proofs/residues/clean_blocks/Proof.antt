@@ -6,7 +6,7 @@ use lib.ListN.{length, drop}
 use borrow.Author.Needs.{needs}
 use borrow.Author.Tests.{not-false}
 use Rattle.letters.specs.Letters.{residue, foreign}
-use Rattle.letters.proofs.Outside.{firstOutside-block}
+use Rattle.letters.proofs.Outside.{firstOutside-block, firstOutside-rest}
 use Rattle.letters.proofs.residues.clean_blocks.Statement.{statement}
 use Rattle.letters.proofs.residues.clean_blocks.Tie as tie
 
@@ -47,14 +47,29 @@ loop-less : tie.Need-loop-less Inv-loop μ-loop
 loop-less c = search needs
 
 loop-again : tie.Need-loop-again Inv-loop μ-loop
-loop-again c =
-    let l = c .before .before .before .before .loop in (
-      omega arith,
-      firstOutside-block residue _ (l .i) 1024 (omega arith) (sym (c .before .all-residues .ensures) ∙ not-false _ (c .if1 .left)) (l .inv .1),
-    )
+loop-again c = let l = c .before .before .before .before .loop in (
+  omega arith,
+  firstOutside-block residue _ (l .i) 1024 (omega arith) (sym (c .before .all-residues .ensures) ∙ not-false _ (c .if1 .left)) (l .inv .1),
+)
+
+sub-all-residues-2 : tie.Need-sub-all-residues-2 Inv-loop μ-loop
+sub-all-residues-2 c = search needs
+
+part-all-residues-start-2 : tie.Need-part-all-residues-start-2 Inv-loop μ-loop
+part-all-residues-start-2 c = search needs
+
+part-all-residues-end-2 : tie.Need-part-all-residues-end-2 Inv-loop μ-loop
+part-all-residues-end-2 c = search needs
+
+all-residues-requires-2 : tie.Need-all-residues-requires-2 Inv-loop μ-loop
+all-residues-requires-2 c κs = search needs
 
 returns-2 : tie.Need-returns-2 Inv-loop μ-loop
-returns-2 c = c .before .loop .inv
+returns-2 c = let l = c .before .before .before .before .loop in
+    (omega arith, firstOutside-rest residue _ (l .i) (l .inv .0) (sym (c .before .all-residues2 .ensures) ∙ c .if2 .taken) (l .inv .1))
+
+returns-3 : tie.Need-returns-3 Inv-loop μ-loop
+returns-3 c = c .before .before .before .before .loop .inv
 
 pub clean-blocks-spec : {M : Type 1} → statement M
 clean-blocks-spec =
@@ -73,4 +88,9 @@ clean-blocks-spec =
     add-i
     loop-less
     loop-again
-    returns-2)
+    sub-all-residues-2
+    part-all-residues-start-2
+    part-all-residues-end-2
+    all-residues-requires-2
+    returns-2
+    returns-3)

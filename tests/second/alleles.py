@@ -1,0 +1,118 @@
+"""Alleles to try: a reference, a start, an end and a replacement each.
+
+Each of these lies on its reference and is of residues; whoever wants a refusal spoils one.
+"""
+from itertools import product
+
+LETTERS = b"ACGT"
+# A comparison may take 8 or more bytes at a step, and turn where a block of them ends.
+STEPS = (7, 8, 9, 15, 16, 17, 31, 32, 33, 63, 64, 65, 127, 128, 129, 1023, 1024, 1025, 2048)
+
+
+def texts(longest):
+    """Every text of the two letters A and C with up to so many of them."""
+    for length in range(longest + 1):
+        for text in product(b"AC", repeat=length):
+            yield bytes(text)
+
+
+def every_small():
+    """Every allele on a reference of up to 6 residues, each A or C, with a replacement of up to 3."""
+    replacements = list(texts(3))
+    for reference in texts(6):
+        for end in range(len(reference) + 1):
+            for start in range(end + 1):
+                for replacement in replacements:
+                    yield reference, start, end, replacement
+
+
+def residues(rng, length, alphabet=LETTERS):
+    return bytes(rng.choices(alphabet, k=length))
+
+
+def repeat(rng):
+    """A unit of up to 7 residues many times over, the last time perhaps in part."""
+    unit = residues(rng, rng.randint(1, 7))
+    length = rng.choice((rng.randint(0, 40), rng.randint(0, 40), rng.choice(STEPS)))
+    return unit, (unit * (length // len(unit) + 1))[:length]
+
+
+def in_repeat(rng):
+    """One or more units, begun anywhere in the unit, that come or go somewhere in a repeat."""
+    unit, middle = repeat(rng)
+    left, right = residues(rng, rng.randint(0, 12)), residues(rng, rng.randint(0, 12))
+    reference = left + middle + right
+    start = len(left) + rng.randint(0, len(middle))
+    end = min(start + rng.choice((0, 0, 1, 2)) * len(unit), len(left) + len(middle))
+    turn = (start - len(left)) % len(unit)
+    return reference, start, end, rng.choice((0, 0, 1, 3)) * (unit[turn:] + unit[:turn])
+
+
+def anywhere(rng):
+    """Any interval and any replacement, on a reference of few letters or of many."""
+    alphabet = rng.choice((b"A", b"AC", LETTERS, bytes(range(ord("A"), ord("Z") + 1))))
+    reference = residues(rng, rng.choice((0, 1, rng.randint(0, 9), rng.randint(0, 80))), alphabet)
+    start, end = sorted((rng.randint(0, len(reference)), rng.randint(0, len(reference))))
+    return reference, start, end, residues(rng, rng.choice((0, 1, rng.randint(0, 6), rng.randint(0, 40))), alphabet)
+
+
+def unchanged(rng):
+    reference, start, end, _ = anywhere(rng)
+    return reference, start, end, reference[start:end]
+
+
+def at_an_end(rng):
+    """At the very start or end of the reference, or all of it."""
+    reference, _, _, replacement = anywhere(rng)
+    n = len(reference)
+    start, end = rng.choice(((0, 0), (n, n), (0, n), (0, min(1, n)), (max(n - 1, 0), n)))
+    return reference, start, end, rng.choice((replacement, b"", reference[:3], reference[-3:]))
+
+
+def overlapping(rng):
+    """A deletion or an insertion whose common prefix and suffix overlap by far."""
+    letter = residues(rng, 1)
+    n, more = rng.randint(0, 50), rng.randint(0, 50)
+    start = rng.randint(0, n)
+    end = rng.randint(start, n)
+    return letter * n, start, end, letter * more
+
+
+def one_letter_changed(rng):
+    """A stretch whose copy has one other residue, so that the trimming ends there from both sides."""
+    length = rng.choice((rng.randint(1, 40), rng.choice(STEPS)))
+    reference = residues(rng, length + rng.randint(0, 20))
+    start = rng.randint(0, len(reference) - length)
+    offset = rng.randrange(length)
+    text = reference[start:start + length]
+    return reference, start, start + length, text[:offset] + residues(rng, 1, b"XYZ") + text[offset + 1:]
+
+
+def widened(rng, reference, start, end, replacement):
+    """The same change, given on a wider interval."""
+    left, right = rng.randint(0, min(start, 12)), rng.randint(0, min(len(reference) - end, 12))
+    return (reference, start - left, end + right,
+            reference[start - left:start] + replacement + reference[end:end + right])
+
+
+SHAPES = (in_repeat, in_repeat, anywhere, unchanged, at_an_end, overlapping, one_letter_changed)
+
+
+def any_allele(rng):
+    allele = rng.choice(SHAPES)(rng)
+    return widened(rng, *allele) if rng.random() < 0.3 else allele
+
+
+def long_rolls():
+    """A unit that goes, or comes, at one end of a repeat or in it, so that the roll has every length
+    around the ends of steps, to either side."""
+    for size in (1, 2, 3, 8):
+        unit = bytes(range(ord("A"), ord("A") + size))
+        for step in STEPS:
+            reference = b"X" + (unit * (step + size))[:step + size] + b"Y"
+            end = len(reference) - 1
+            for start in (1, 1 + step // size * size, 1 + step // 2 // size * size):
+                yield reference, start, start + size, b""
+                yield reference, start, start, unit
+            yield reference, end - size, end, b""
+            yield reference, end, end, reference[end - size:end]
