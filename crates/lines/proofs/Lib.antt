@@ -1,0 +1,8 @@
+pub mod Cutting
+pub mod Fields
+pub mod Laying
+pub mod Replies
+pub mod Walk
+pub mod Promises
+pub mod Bound
+pub mod Worked

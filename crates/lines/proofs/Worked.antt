@@ -1,0 +1,17 @@
+-- Document 01's example of the line program.
+use mathlib.Core.Path.{_≡_, refl}
+use Rattle.stretch.specs.Ascii.{ascii}
+use Rattle.stretch.specs.Common.{lcp, lcs}
+use Rattle.stretch.specs.Same.{same}
+use Rattle.letters.specs.Letters.{residue, firstOutside}
+use Rattle.normal.specs.Form.{altered, shorter, within, ahead, behind, kindIn, kindOf, changedForm, normal}
+use Rattle.normal.specs.Calls.{formGrounds}
+use Rattle.text.specs.Decimal.{decimalIn, enough, decimal}
+use Rattle.text.specs.Number.{valueFrom, value, numberOf}
+use Rattle.lines.specs.Cut.{parted}
+use Rattle.lines.specs.Said.{replacementOf, said}
+use Rattle.lines.specs.Answers.{answerLine, output}
+
+pub worked : output (ascii "TCAGCAGCAGT\n4 4 CAG\n2 2 .\n9 4 A\n") ≡ ascii "1 10 indel CAGCAGCAGCAG\n2 2 unchanged .\nrefused 2\n"
+unfolding output answerLine parted said replacementOf same numberOf value valueFrom decimal enough decimalIn formGrounds residue firstOutside normal altered changedForm kindOf kindIn ahead behind within shorter lcp lcs
+worked = refl

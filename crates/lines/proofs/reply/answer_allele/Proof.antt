@@ -1,0 +1,49 @@
+-- By what the normaliser answers.
+use mathlib.Core.Path.{_∙_, sym}
+use Rattle.normal.proofs.Answers.{clean-fits}
+use Rattle.lines.proofs.Laying.{puts-as}
+use Rattle.lines.proofs.Replies.{accepted-line, refused-line}
+use borrow.Author.Needs.{needs}
+use Rattle.lines.proofs.reply.answer_allele.Statement.{statement}
+use Rattle.lines.proofs.reply.answer_allele.Tie as tie
+
+locate-clean-requires : tie.Need-locate-clean-requires
+locate-clean-requires c κs = search needs
+
+enum-known-found : tie.Need-enum-known-found
+enum-known-found c = search needs
+
+answer-form-requires : tie.Need-answer-form-requires
+answer-form-requires c κs = clean-fits _ _ _ _ _ (sym (c .before .before .found .given .1) ∙ c .before .before .before .before .locate-clean .ensures)
+
+enum-known-found-2 : tie.Need-enum-known-found-2
+enum-known-found-2 c = search needs
+
+answer-refused-requires : tie.Need-answer-refused-requires
+answer-refused-requires c κs = search needs
+
+same-length : tie.Need-same-length
+same-length c = search needs
+
+returns : tie.Need-returns
+returns c = puts-as _ _ _ _ _ (accepted-line _ _ _ _ _ (sym (c .before .before .before .before .before .found .given .1) ∙ c .before .before .before .before .before .before .before .locate-clean .ensures)) (c .before .before .answer-form .ensures)
+
+same-length-2 : tie.Need-same-length-2
+same-length-2 c = search needs
+
+returns-2 : tie.Need-returns-2
+returns-2 c = puts-as _ _ _ _ _ (refused-line _ _ _ _ _ (sym (c .before .before .before .before .before .found2 .given .1) ∙ c .before .before .before .before .before .before .before .locate-clean .ensures)) (c .before .before .answer-refused .ensures)
+
+pub answer-allele-spec : {M : Type 1} → statement M
+answer-allele-spec =
+    tie.close
+    (tie.spec
+    locate-clean-requires
+    enum-known-found
+    answer-form-requires
+    enum-known-found-2
+    answer-refused-requires
+    same-length
+    returns
+    same-length-2
+    returns-2)

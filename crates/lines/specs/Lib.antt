@@ -1,0 +1,4 @@
+pub mod Cut
+pub mod Said
+pub mod Answers
+pub mod Parts
