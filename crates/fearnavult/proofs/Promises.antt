@@ -2,8 +2,8 @@
 use Prim.Native.Nat.{ℕ}
 use mathlib.Core.Path.{_≡_, _∙_, sym, ap}
 use mathlib.Core.List.{List}
-use Rattle.digest.proofs.Promises.{identifies-once}
 use Rattle.normal.proofs.Promises.{normalises-once}
+use Rattle.digest.proofs.Promises.{identifies-once}
 use Rattle.fearnavult.specs.declared.FvForm.{FvForm}
 use Rattle.fearnavult.specs.declared.FvWritten.{FvWritten}
 use Rattle.fearnavult.specs.Flat.{flatWritten, flatForm, FlatIdentifies, FlatNormalises}

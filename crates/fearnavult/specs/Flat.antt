@@ -4,12 +4,12 @@ use mathlib.Core.Path.{_≡_}
 use mathlib.Core.List.{List}
 use Rattle.refusal.specs.declared.Written.{Written}
 use Rattle.refusal.specs.declared.Written.the-variants.{Bytes, Refused}
-use Rattle.digest.specs.Calls.{Identifies}
 use Rattle.normal.specs.declared.Kind.{Kind}
 use Rattle.normal.specs.declared.Kind.the-variants.{Unchanged, Substitution, Indel}
 use Rattle.normal.specs.declared.Normalised.{Normalised}
 use Rattle.normal.specs.declared.Normalised.the-variants.{Accepted as Formed, Refused as Unformed}
 use Rattle.normal.specs.Calls.{Normalises}
+use Rattle.digest.specs.Calls.{Identifies}
 use Rattle.fearnavult.specs.declared.FvForm.{FvForm}
 use Rattle.fearnavult.specs.declared.FvWritten.{FvWritten}
 

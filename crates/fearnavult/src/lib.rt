@@ -69,9 +69,9 @@ fn flat_form(a: Normalised) -> FvForm
                 length: form.length,
             }
         }
-        Normalised::Refused(refused) => FvForm {
-            refusal: refused.number,
-            value: refused.value,
+        Normalised::Refused(why) => FvForm {
+            refusal: why.number,
+            value: why.value,
             kind: 0,
             start: 0,
             end: 0,

@@ -4,10 +4,10 @@ use mathlib.Core.Bool.{Bool, true, false, not, cond}
 use mathlib.Core.List.{List, [], _∷_}
 use lib.Dec.{leb, ltb, eqb}
 use lib.ListN.{length}
+use Rattle.stretch.specs.Ascii.{ascii}
 use Rattle.refusal.specs.Verdict.{Ground, ground, verdict, tell}
 use Rattle.refusal.specs.declared.Outcome.{Outcome}
 use Rattle.refusal.specs.declared.Outcome.the-variants.{Accepted, Refused}
-use Rattle.stretch.specs.Ascii.{ascii}
 
 -- a residue is a byte from A to Z
 unfoldable pub residue : ℕ → Bool

@@ -5,14 +5,14 @@ use mathlib.Core.Path.{_≡_, _∙_, sym, ap}
 use mathlib.Core.List.{List, [], _∷_}
 use lib.ListN.{length, getD, drop, length-drop, drop-of-length-le}
 use lib.Seq.{drop-cons}
+use lib.Dec.{ltb}
 use borrow.Author.Tests.{ltb-true, ltb-false, ne-eqb}
 use Rattle.stretch.proofs.Cases.{by-cases}
-use lib.Dec.{ltb}
-use Rattle.letters.proofs.Outside.{firstOutside-le}
 use Rattle.stretch.specs.Ascii.{ascii}
 use Rattle.stretch.specs.Part.{part}
 use Rattle.stretch.specs.Same.{same}
 use Rattle.stretch.proofs.Same.{same-lengths}
+use Rattle.letters.proofs.Outside.{firstOutside-le}
 use Rattle.text.specs.Number.{numberOf}
 use Rattle.lines.specs.declared.Line.the-variants.{Unread}
 use Rattle.lines.specs.Cut.{parted, other, firstOf, nextOf}

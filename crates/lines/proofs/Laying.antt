@@ -5,36 +5,20 @@ use mathlib.Core.Path.{_≡_, _∙_, sym, ap}
 use mathlib.Core.List.{List, [], _∷_, _++_}
 use lib.ListN.{length, take, drop, set, length-append}
 use lib.Dec.{ltb}
-use Rattle.stretch.proofs.Cases.{by-cases}
 use borrow.Author.Tests.{lt-ltb, le-ltb, ltb-false}
+use Rattle.stretch.proofs.Cases.{by-cases}
 use Rattle.stretch.specs.Over.{over}
-use Rattle.stretch.proofs.Over.{over-next, over-tail-front, set-over, length-over, take-over}
+use Rattle.stretch.proofs.Over.{over-next, length-over}
+use Rattle.stretch.proofs.Wrote.{then-byte}
 use Rattle.refusal.specs.declared.Refusal.{Refusal}
 use Rattle.refusal.specs.declared.Written.{Written}
 use Rattle.refusal.specs.declared.Written.the-variants.{Bytes, Refused}
 use Rattle.refusal.proofs.Writes.{writes-nothing, writes-all}
-use Rattle.text.specs.Decimal.{decimal}
-use Rattle.text.proofs.Digits.{decimal-within}
 use Rattle.normal.specs.declared.Kind.{Kind}
 use Rattle.normal.specs.declared.Kind.the-variants.{Unchanged, Substitution, Indel}
+use Rattle.text.specs.Decimal.{decimal}
+use Rattle.text.proofs.Digits.{decimal-within}
 use Rattle.lines.specs.Answers.{word, Puts}
-use Rattle.lines.specs.Parts.{Wrote}
-
--- two in a row are one
-pub wrote-then : (l : List ℕ) (at : ℕ) (s m : List ℕ) (n : ℕ) (t k : List ℕ) (j : ℕ) → at ≤ length l → Wrote l at s m n → Wrote m n t k j → Wrote l at (s ++ t) k j
-wrote-then l at s m n t k j h p q =
-    record {
-      next = simp length-append (omega (arith, p .next, q .next));
-      laid = q .laid ∙ rw (p .laid) (over-next l at n s t h (p .next));
-      room = q .room;
-    }
-
--- a text in a lent tail that has come back, and a byte behind it
-pub then-byte : (l : List ℕ) (at : ℕ) (s : List ℕ) (b n : ℕ) → n ≡ at + length s → n < length l
-    → set (take at l ++ (over (take (length l - at) (drop at l)) 0 s ++ drop (length l - at) (drop at l))) n b ≡ over l at (s ++ (b ∷ []))
-then-byte l at s b n e h =
-    rw (over-tail-front l at s (omega arith))
-    (set-over (over l at s) n b (omega (arith, length-over l at s (omega arith))) ∙ over-next l at n s (b ∷ []) (omega arith) e)
 
 -- a front, and behind it a text in a tail and a byte
 pub front-then : (l f s : List ℕ) (b n : ℕ) → n ≡ length f + length s → n < length l
@@ -43,14 +27,6 @@ pub front-then : (l f s : List ℕ) (b n : ℕ) → n ≡ length f + length s �
 front-then l f s b n e h =
     then-byte (over l 0 f) (length f) s b n e (omega (arith, length-over l 0 f (omega arith)))
     ∙ over-next l 0 (length f) f (s ++ (b ∷ [])) (omega arith) (omega arith)
-
--- a text laid over a buffer that has room for it
-pub wrote : (l : List ℕ) (at : ℕ) (s left : List ℕ) (n : ℕ) → at + length s ≤ length l → n ≡ at + length s → left ≡ over l at s → Wrote l at s left n
-wrote l at s left n h e w = record { next = e; laid = w; room = omega (arith, ap length w, length-over l at s h) }
-
--- what stands at the front of a buffer that it is laid over
-pub wrote-front : (l s left : List ℕ) (n : ℕ) → Wrote l 0 s left n → take (n - 0) left ≡ s
-wrote-front l s left n w = let e : n - 0 ≡ 0 + length s = omega (arith, w .next) in rw (e, w .laid) (take-over l 0 s (omega arith))
 
 pub number-short : (n b : ℕ) → n < 2 ^ 64 → length (decimal n ++ (b ∷ [])) ≤ 21
 number-short n b h = simp length-append (omega (arith, decimal-within n h))

@@ -1,12 +1,11 @@
 -- What the code's inner functions promise each other.
-use Prim.Native.Nat.{ℕ, _+_, _<_, _≤_}
+use Prim.Native.Nat.{ℕ, _+_, _<_}
 use mathlib.Core.Path.{_≡_}
 use mathlib.Core.Bool.{cond}
 use mathlib.Core.List.{List, [], _∷_, _++_}
 use lib.Dec.{eqb}
 use lib.ListN.{length, drop}
 use Rattle.stretch.specs.Ascii.{ascii}
-use Rattle.stretch.specs.Over.{over}
 use Rattle.stretch.specs.Part.{part}
 use Rattle.normal.specs.declared.Kind.{Kind}
 use Rattle.text.specs.Decimal.{decimal}
@@ -29,9 +28,3 @@ stop letters = cond (eqb letters 0) (ascii " .") (ascii " ")
 
 abbrev pub refusedLine : ℕ → List ℕ
 refusedLine number = ascii "refused " ++ (decimal number ++ (lineFeed ∷ []))
-
--- s stands in a buffer from a place on, and n is the place behind it
-pub record Wrote (l : List ℕ) (at : ℕ) (s left : List ℕ) (n : ℕ) : Type 0 where
-  pub next : n ≡ at + length s
-  pub laid : left ≡ over l at s
-  pub room : n ≤ length left

@@ -12,9 +12,10 @@ use refusal::Written;
 ghost use mathlib.Core.List.{_++_, _∷_, []};
 ghost use Prim.Native.Nat.{_≤_};
 ghost use lib.ListN.{length};
+ghost use Rattle.stretch.specs.Over.{Wrote};
 ghost use Rattle.normal.specs.Stretches.{Fits, formIn};
 ghost use Rattle.lines.specs.Answers.{lineFeed, formText, alleleText, answerLine, Puts};
-ghost use Rattle.lines.specs.Parts.{Wrote, head, refusedLine, stop};
+ghost use Rattle.lines.specs.Parts.{head, refusedLine, stop};
 
 // The front of a form whose replacement has so many letters.
 fn form_head(out: &mut [u8], w: Stretches, letters: usize) -> usize

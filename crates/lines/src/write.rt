@@ -5,22 +5,15 @@ use refusal::OUTPUT_TOO_SHORT;
 use refusal::Written;
 use refusal::refuse;
 use stretch::copy;
-use stretch::copy_at;
+use stretch::put;
 use text::write_decimal;
 ghost use mathlib.Core.List.{_++_, _∷_, []};
 ghost use Prim.Native.Nat.{_+_, _≤_, _^_, _<_};
 ghost use lib.ListN.{length};
+ghost use Rattle.stretch.specs.Over.{Wrote};
 ghost use Rattle.text.specs.Decimal.{decimal};
 ghost use Rattle.lines.specs.Answers.{lineFeed, word, Puts};
-ghost use Rattle.lines.specs.Parts.{Wrote, head, refusedLine};
-
-fn put(out: &mut [u8], at: usize, text: &[u8]) -> usize
-    requires { ⌜ at + length (now text) ≤ length (now out) ⌝ }
-    ensures { λ r. ⌜ Wrote (now (out .entry)) at (now (text .entry)) (now (out .exit)) r ⌝ }
-{
-    copy_at(out, at, text);
-    at + text.len()
-}
+ghost use Rattle.lines.specs.Parts.{head, refusedLine};
 
 // A number, and one byte behind it.
 fn put_number(out: &mut [u8], at: usize, n: u64, behind: u8) -> usize

@@ -7,11 +7,11 @@ use lib.ListN.{length, take, drop, length-append}
 use lib.Seq.{length-take-le, take-at, drop-at}
 use Rattle.stretch.specs.Common.{lcp, lcs}
 use Rattle.stretch.specs.Part.{part}
+use Rattle.stretch.proofs.Interval.{length-part, drop-start, take-end}
 use Rattle.normal.specs.Form.{altered, shorter, ahead, behind, changedForm}
 use Rattle.normal.specs.Steps.{extended, placed}
 use Rattle.normal.proofs.Flanks.{length-altered}
 use Rattle.normal.proofs.Laws.{lcp-le-shorter, lcs-le-shorter, ahead-apart, behind-apart, ahead-meet, behind-meet}
-use Rattle.stretch.proofs.Interval.{length-part, drop-start, take-end}
 
 -- an interval of the reference, and what is given for it
 module _ (r : List ℕ) (s e : ℕ) (v : List ℕ) (order : s ≤ e) (inside : e ≤ length r) where

@@ -12,9 +12,9 @@ use Rattle.stretch.specs.Same.{same}
 use Rattle.stretch.proofs.Cases.{by-cases}
 use Rattle.stretch.proofs.Common.{lcp-le-left, lcp-le-right, lcp-take}
 use Rattle.stretch.proofs.Suffix.{lcs-le-left, lcs-le-right, lcs-drop}
+use Rattle.stretch.proofs.Interval.{part-between}
 use Rattle.normal.specs.declared.Kind.the-variants.{Unchanged}
 use Rattle.normal.specs.Form.{altered, shorter, within, ahead, behind, Normal, changedForm, normal}
-use Rattle.stretch.proofs.Interval.{part-between}
 
 -- the two lengths that are kept: each within its common length, and both together within the shorter sequence
 module _ (r t : List ℕ) where

@@ -11,13 +11,13 @@ use Rattle.stretch.proofs.Cases.{by-cases}
 use Rattle.stretch.proofs.Common.{lcp-comm}
 use Rattle.stretch.proofs.Suffix.{lcs-comm}
 use Rattle.stretch.proofs.Same.{same-refl, same-lengths}
+use Rattle.stretch.proofs.Interval.{drop-start, take-end}
+use Rattle.stretch.proofs.Shared.{lcp-apart, lcs-apart, same-short}
 use Rattle.normal.specs.Form.{altered, shorter, changedForm, normal}
 use Rattle.normal.specs.Steps.{Justified, rollLeft, rollRight, rolledOut, settled, trimmed, justified, placed}
 use Rattle.normal.proofs.Flanks.{length-altered, lcp-flank, lcs-flank}
 use Rattle.normal.proofs.Laws.{normal-unchanged, normal-changed, normal-ordered, normal-inside, again}
 use Rattle.normal.proofs.Rolled.{rollRight-lcp, rollLeft-lcs}
-use Rattle.stretch.proofs.Interval.{drop-start, take-end}
-use Rattle.stretch.proofs.Shared.{lcp-apart, lcs-apart, same-short}
 use Rattle.normal.proofs.Extended.{form-apart, form-meet}
 use Rattle.normal.proofs.Trimmed.{Lies, length-there, stands-trimmed, lcp-trimmed, lcs-trimmed}
 

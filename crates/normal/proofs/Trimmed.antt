@@ -9,10 +9,10 @@ use Rattle.stretch.specs.Common.{lcp, lcs}
 use Rattle.stretch.specs.Part.{part}
 use Rattle.stretch.proofs.Common.{lcp-le-left, lcp-take}
 use Rattle.stretch.proofs.Suffix.{lcs-le-left, lcs-drop}
-use Rattle.normal.specs.Form.{altered}
-use Rattle.normal.specs.Steps.{Underway, begun, lessSuffix, lessPrefix, trimmed}
 use Rattle.stretch.proofs.Interval.{length-part, drop-start, take-part, drop-part}
 use Rattle.stretch.proofs.Shared.{lcp-less, lcs-less, lcs-drop-le}
+use Rattle.normal.specs.Form.{altered}
+use Rattle.normal.specs.Steps.{Underway, begun, lessSuffix, lessPrefix, trimmed}
 
 -- an interval of the reference, with the sequence u there
 pub record Lies (r : List ℕ) (s e : ℕ) (u : List ℕ) : Type 0 where

@@ -5,20 +5,12 @@ use super::Stretches;
 use super::roll::roll_left;
 use super::roll::roll_right;
 use stretch::equal;
+use stretch::smaller;
 ghost use mathlib.Core.Path.{_≡_};
-ghost use Prim.Native.Nat.{_-_, _≤_, min, max};
+ghost use Prim.Native.Nat.{_-_, _≤_, max};
 ghost use lib.ListN.{length};
 ghost use Rattle.normal.specs.Form.{Allele, within, kindIn, altered};
 ghost use Rattle.normal.specs.Stretches.{spread, asGiven, changedStretches, stretchesOf};
-
-fn smaller(a: usize, b: usize) -> usize
-    ensures { λ r. ⌜ r ≡ min a b ⌝ }
-{
-    if a < b {
-        return a;
-    }
-    b
-}
 
 fn larger(a: usize, b: usize) -> usize
     ensures { λ r. ⌜ r ≡ max a b ⌝ }

@@ -7,8 +7,8 @@ use mathlib.Core.Path.{_≡_, sym, ap, _∙_}
 use mathlib.Core.List.{List}
 use lib.ListN.{length, take, drop, set, length-append}
 use lib.Seq.{take-suc-set, getD-take}
-use Rattle.sha512.specs.declared.Hash.{Hash}
 use Rattle.stretch.specs.BigEndian.{bigEndian}
+use Rattle.sha512.specs.declared.Hash.{Hash}
 use Rattle.sha512.specs.Block.{blockWords, scheduled, schedule, roundAt, rounds, compressed}
 use Rattle.sha512.specs.Message.{absorbed}
 

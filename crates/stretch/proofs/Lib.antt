@@ -7,3 +7,4 @@ pub mod Same
 pub mod Shared
 pub mod Suffix
 pub mod Tail
+pub mod Wrote

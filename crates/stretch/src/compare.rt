@@ -1,15 +1,15 @@
 // How far two stretches agree, a machine word at a step.
 use super::big_endian::read_word;
 ghost use mathlib.Core.Path.{_≡_};
-ghost use Prim.Native.Nat.{_+_, _-_, _≤_};
+ghost use Prim.Native.Nat.{_+_, _-_, _≤_, min};
 ghost use lib.ListN.{length, take, drop};
 ghost use Rattle.stretch.specs.Common.{lcp, lcs};
 ghost use Rattle.stretch.specs.Same.{same};
 
 const WORD: usize = 8;
 
-fn shorter(a: usize, b: usize) -> usize
-    ensures { λ r. ⌜ (r ≤ a) × (r ≤ b) ⌝ }
+pub fn smaller(a: usize, b: usize) -> usize
+    ensures { λ r. ⌜ r ≡ min a b ⌝ }
 {
     if a < b {
         return a;
@@ -22,7 +22,7 @@ fn words_ahead(a: &[u8], b: &[u8]) -> usize
     ensures { λ r. ⌜ (r ≤ length (now (a .entry))) × (r ≤ length (now (b .entry))) ⌝ }
     ensures { λ r. ⌜ lcp (now (a .entry)) (now (b .entry)) ≡ r + lcp (drop r (now (a .entry))) (drop r (now (b .entry))) ⌝ }
 {
-    let room = shorter(a.len(), b.len());
+    let room = smaller(a.len(), b.len());
     let mut i = 0;
     while WORD <= room - i {
         if read_word(a, i) != read_word(b, i) {
@@ -38,7 +38,7 @@ fn words_behind(a: &[u8], b: &[u8]) -> usize
     ensures { λ r. ⌜ (r ≤ length (now (a .entry))) × (r ≤ length (now (b .entry))) ⌝ }
     ensures { λ r. ⌜ lcs (now (a .entry)) (now (b .entry)) ≡ r + lcs (take (length (now (a .entry)) - r) (now (a .entry))) (take (length (now (b .entry)) - r) (now (b .entry))) ⌝ }
 {
-    let room = shorter(a.len(), b.len());
+    let room = smaller(a.len(), b.len());
     let mut i = 0;
     while WORD <= room - i {
         if read_word(a, a.len() - i - WORD) != read_word(b, b.len() - i - WORD) {

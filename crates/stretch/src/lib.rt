@@ -8,5 +8,7 @@ pub use big_endian::read_word;
 pub use compare::common_prefix;
 pub use compare::common_suffix;
 pub use compare::equal;
+pub use compare::smaller;
 pub use write::copy;
 pub use write::copy_at;
+pub use write::put;

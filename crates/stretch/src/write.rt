@@ -2,7 +2,7 @@
 ghost use mathlib.Core.Path.{_≡_};
 ghost use Prim.Native.Nat.{_+_, _≤_};
 ghost use lib.ListN.{length};
-ghost use Rattle.stretch.specs.Over.{over};
+ghost use Rattle.stretch.specs.Over.{over, Wrote};
 
 // Lays `from` over the front of `to`.
 pub fn copy(to: &mut [u8], from: &[u8])
@@ -22,4 +22,13 @@ pub fn copy_at(to: &mut [u8], place: usize, from: &[u8])
     ensures { λ _. ⌜ now (to .exit) ≡ over (now (to .entry)) place (now (from .entry)) ⌝ }
 {
     copy(&mut to[place..], from);
+}
+
+// Lays `from` over `to` from `place` on, and answers the place behind it.
+pub fn put(to: &mut [u8], place: usize, from: &[u8]) -> usize
+    requires { ⌜ place + length (now from) ≤ length (now to) ⌝ }
+    ensures { λ r. ⌜ Wrote (now (to .entry)) place (now (from .entry)) (now (to .exit)) r ⌝ }
+{
+    copy_at(to, place, from);
+    place + from.len()
 }

@@ -2,8 +2,8 @@
 use mathlib.Core.Path.{_≡_, refl}
 use mathlib.Core.List.{[]}
 use Rattle.stretch.specs.Ascii.{ascii}
-use Rattle.sha512.specs.Constants.{K}
 use Rattle.stretch.specs.BigEndian.{bigEndian}
+use Rattle.sha512.specs.Constants.{K}
 use Rattle.sha512.specs.Block.{blockWords, schedule, roundAt, rounds, compressed}
 use Rattle.sha512.specs.Message.{bytesOf, padding, absorbed, hashed, fourWords, hashBytes, sha512}
 use Rattle.digest.specs.Base64.{character, encoded}

@@ -1,6 +1,6 @@
 -- What was written lies in the buffer.
-use Rattle.lines.proofs.Laying.{puts-room}
 use borrow.Author.Needs.{needs}
+use Rattle.lines.proofs.Laying.{puts-room}
 use Rattle.lines_main.proofs.print_answer.Statement.{statement}
 use Rattle.lines_main.proofs.print_answer.Tie as tie
 

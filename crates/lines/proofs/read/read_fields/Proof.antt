@@ -1,8 +1,8 @@
 -- Each return is what the fields say there.
 use native.Mathlib.Omega.{arith}
 use mathlib.Core.Path.{_∙_, sym}
-use Rattle.lines.proofs.Fields.{says-nothing, no-third, crowded, three-fields}
 use borrow.Author.Needs.{needs}
+use Rattle.lines.proofs.Fields.{says-nothing, no-third, crowded, three-fields}
 use Rattle.lines.proofs.read.read_fields.Statement.{statement}
 use Rattle.lines.proofs.read.read_fields.Tie as tie
 

@@ -1,11 +1,11 @@
 -- One field, two, or the places where the first two end.
+use Prim.Native.Nat.{_+_, _<_}
 use native.Mathlib.Omega.{arith}
 use mathlib.Core.Path.{_∙_, sym}
-use Prim.Native.Nat.{_+_, _<_}
 use lib.ListN.{length}
+use borrow.Author.Needs.{needs}
 use Rattle.lines.proofs.Cutting.{next-le}
 use Rattle.lines.proofs.Fields.{says-nothing, one-field, two-fields, cut}
-use borrow.Author.Needs.{needs}
 use Rattle.lines.proofs.read.read_line.Statement.{statement}
 use Rattle.lines.proofs.read.read_line.Tie as tie
 

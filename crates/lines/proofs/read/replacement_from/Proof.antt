@@ -2,8 +2,8 @@
 use native.Mathlib.Omega.{arith}
 use mathlib.Core.Path.{_∙_, sym}
 use lib.ListN.{length, drop-of-length-le}
-use Rattle.lines.proofs.Fields.{stop-alone, no-stop, longer}
 use borrow.Author.Needs.{needs}
+use Rattle.lines.proofs.Fields.{stop-alone, no-stop, longer}
 use Rattle.lines.proofs.read.replacement_from.Statement.{statement}
 use Rattle.lines.proofs.read.replacement_from.Tie as tie
 

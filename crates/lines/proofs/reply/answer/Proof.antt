@@ -1,7 +1,7 @@
 -- By what the line says.
+use borrow.Author.Needs.{needs}
 use Rattle.lines.proofs.Laying.{puts-as}
 use Rattle.lines.proofs.Replies.{unread-line, allele-line}
-use borrow.Author.Needs.{needs}
 use Rattle.lines.proofs.reply.answer.Statement.{statement}
 use Rattle.lines.proofs.reply.answer.Tie as tie
 

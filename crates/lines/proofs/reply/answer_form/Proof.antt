@@ -1,13 +1,14 @@
 -- The front is written apart, and laid before the stretches.
-use native.Mathlib.Omega.{arith}
 use Prim.Native.Nat.{ℕ}
+use native.Mathlib.Omega.{arith}
 use mathlib.Core.Path.{_∙_, sym, ap}
 use mathlib.Core.List.{List, [], _∷_, _++_}
+use borrow.Author.Needs.{needs}
+use Rattle.stretch.proofs.Wrote.{wrote-front}
 use Rattle.normal.proofs.Answers.{length-joined}
 use Rattle.normal.specs.Stretches.{joined}
-use Rattle.lines.proofs.Laying.{wrote-front, puts-as}
+use Rattle.lines.proofs.Laying.{puts-as}
 use Rattle.lines.proofs.Replies.{part-le, form-line}
-use borrow.Author.Needs.{needs}
 use Rattle.lines.proofs.reply.answer_form.Statement.{statement}
 use Rattle.lines.proofs.reply.answer_form.Tie as tie
 

@@ -1,7 +1,8 @@
 -- The line is written apart, and laid where there is room.
 use mathlib.Core.Path.{sym}
-use Rattle.lines.proofs.Laying.{wrote-front, puts-as}
 use borrow.Author.Needs.{needs}
+use Rattle.stretch.proofs.Wrote.{wrote-front}
+use Rattle.lines.proofs.Laying.{puts-as}
 use Rattle.lines.proofs.reply.answer_refused.Statement.{statement}
 use Rattle.lines.proofs.reply.answer_refused.Tie as tie
 

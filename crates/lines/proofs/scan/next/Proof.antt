@@ -1,7 +1,7 @@
 -- The next mark from the place given is the next from where the loop has come to.
+use Prim.Native.Nat.{_-_}
 use native.Mathlib.Omega.{arith}
 use mathlib.Core.Path.{_≡_, refl, _∙_, sym}
-use Prim.Native.Nat.{_-_}
 use lib.ListN.{length}
 use borrow.Author.Needs.{needs}
 use Rattle.lines.specs.Cut.{nextOf}

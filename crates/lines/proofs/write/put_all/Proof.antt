@@ -1,8 +1,8 @@
 -- Refused where the buffer is shorter, else laid.
 use native.Mathlib.Omega.{arith}
 use mathlib.Core.Path.{refl}
-use Rattle.lines.proofs.Laying.{puts-none, puts-whole}
 use borrow.Author.Needs.{needs}
+use Rattle.lines.proofs.Laying.{puts-none, puts-whole}
 use Rattle.lines.proofs.write.put_all.Statement.{statement}
 use Rattle.lines.proofs.write.put_all.Tie as tie
 

@@ -2,8 +2,8 @@
 use native.Mathlib.Omega.{arith}
 use mathlib.Core.List.{_++_}
 use lib.ListN.{length-append, length-set}
-use Rattle.lines.proofs.Laying.{puts-none, puts-whole, front-then}
 use borrow.Author.Needs.{needs}
+use Rattle.lines.proofs.Laying.{puts-none, puts-whole, front-then}
 use Rattle.lines.proofs.write.put_line.Statement.{statement}
 use Rattle.lines.proofs.write.put_line.Tie as tie
 

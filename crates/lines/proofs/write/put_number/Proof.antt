@@ -1,11 +1,11 @@
 -- The digits in a tail that comes back, and the byte behind them.
+use Prim.Native.Nat.{_+_}
 use native.Mathlib.Omega.{arith}
 use mathlib.Core.List.{[], _∷_, _++_}
-use Prim.Native.Nat.{_+_}
 use lib.ListN.{length-append}
-use Rattle.text.specs.Decimal.{decimal}
-use Rattle.lines.proofs.Laying.{wrote, then-byte}
 use borrow.Author.Needs.{needs}
+use Rattle.stretch.proofs.Wrote.{wrote, then-byte}
+use Rattle.text.specs.Decimal.{decimal}
 use Rattle.lines.proofs.write.put_number.Statement.{statement}
 use Rattle.lines.proofs.write.put_number.Tie as tie
 

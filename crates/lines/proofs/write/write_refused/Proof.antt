@@ -1,8 +1,8 @@
 -- The word, and the number behind it.
 use native.Mathlib.Omega.{arith}
-use Rattle.text.proofs.Digits.{decimal-within}
-use Rattle.lines.proofs.Laying.{wrote-then}
 use borrow.Author.Needs.{needs}
+use Rattle.stretch.proofs.Wrote.{wrote-then}
+use Rattle.text.proofs.Digits.{decimal-within}
 use Rattle.lines.proofs.write.write_refused.Statement.{statement}
 use Rattle.lines.proofs.write.write_refused.Tie as tie
 

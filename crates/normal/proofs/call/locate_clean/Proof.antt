@@ -1,7 +1,7 @@
 -- Stretches that are found are tested on; a refusal is handed on.
 use mathlib.Core.Path.{_∙_, sym}
-use Rattle.normal.proofs.Answers.{located-fits, clean-located, refused-located}
 use borrow.Author.Needs.{needs}
+use Rattle.normal.proofs.Answers.{located-fits, clean-located, refused-located}
 use Rattle.normal.proofs.call.locate_clean.Statement.{statement}
 use Rattle.normal.proofs.call.locate_clean.Tie as tie
 use Rattle.normal.proofs.call.locate_clean.Reads as reads

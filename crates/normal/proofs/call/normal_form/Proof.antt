@@ -1,7 +1,7 @@
 -- A form that is found is written; a refusal is handed on.
 use mathlib.Core.Path.{_∙_, sym}
-use Rattle.normal.proofs.Answers.{clean-fits, lays-normal, unformed}
 use borrow.Author.Needs.{needs}
+use Rattle.normal.proofs.Answers.{clean-fits, lays-normal, unformed}
 use Rattle.normal.proofs.call.normal_form.Statement.{statement}
 use Rattle.normal.proofs.call.normal_form.Tie as tie
 use Rattle.normal.proofs.call.normal_form.Reads as reads

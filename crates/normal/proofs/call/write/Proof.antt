@@ -1,17 +1,17 @@
 -- The joined text is laid over the output's tail, where there is room.
 use mathlib.Core.Path.{refl, _∙_, sym}
-use Rattle.refusal.proofs.Sum.{place-within}
+use borrow.Author.Needs.{needs}
 use Rattle.stretch.proofs.Over.{over-tail-front}
+use Rattle.refusal.proofs.Sum.{place-within}
+use Rattle.refusal.proofs.refuse.Reads as refuse-reads
+use Rattle.refusal.proofs.sum_exceeds.Reads as sum-exceeds-reads
 use Rattle.normal.specs.Stretches.{joined}
 use Rattle.normal.proofs.Answers.{lays-nothing, room-left, room-for, lays-all}
-use borrow.Author.Needs.{needs}
 use Rattle.normal.proofs.call.write.Statement.{statement}
 use Rattle.normal.proofs.call.write.Tie as tie
 use Rattle.normal.proofs.call.write.Reads as reads
 use Rattle.normal.proofs.call.write.Lts as lts
 use Rattle.normal.proofs.three.copy_three.Reads as copy-three-reads
-use Rattle.refusal.proofs.refuse.Reads as refuse-reads
-use Rattle.refusal.proofs.sum_exceeds.Reads as sum-exceeds-reads
 
 -- src/call.rt:72:19
 sub-length : tie.Need-sub-length

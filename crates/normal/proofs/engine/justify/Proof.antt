@@ -1,12 +1,12 @@
 -- The rolls give p and q, and the numbers follow.
 use native.Mathlib.Omega.{arith}
 use mathlib.Core.Path.{_∙_}
+use borrow.Author.Needs.{needs}
 use Rattle.stretch.proofs.Common.{lcp-le-left}
 use Rattle.stretch.proofs.Suffix.{lcs-le-left}
 use Rattle.normal.specs.Form.{altered}
 use Rattle.normal.proofs.Laws.{lcp-le-shorter}
 use Rattle.normal.proofs.Spot.{spot-p, spot-q, spot-k, justified, rolls-fit}
-use borrow.Author.Needs.{needs}
 use Rattle.normal.proofs.engine.justify.Statement.{statement}
 use Rattle.normal.proofs.engine.justify.Tie as tie
 

@@ -2,8 +2,8 @@
 use Prim.Native.Nat.{_+_}
 use native.Mathlib.Omega.{arith}
 use borrow.Author.Tests.{lt-ltb, le-ltb}
-use Rattle.normal.specs.Form.{kindIn}
 use borrow.Author.Needs.{needs}
+use Rattle.normal.specs.Form.{kindIn}
 use Rattle.normal.proofs.engine.kind_of.Statement.{statement}
 use Rattle.normal.proofs.engine.kind_of.Tie as tie
 

@@ -1,6 +1,6 @@
 -- Each number is the definition's.
-use Rattle.normal.specs.Stretches.{spread}
 use borrow.Author.Needs.{needs}
+use Rattle.normal.specs.Stretches.{spread}
 use Rattle.normal.proofs.engine.lay.Statement.{statement}
 use Rattle.normal.proofs.engine.lay.Tie as tie
 

@@ -1,8 +1,8 @@
 -- The allele is unchanged exactly where the reference at its spot is the replacement.
 use mathlib.Core.Path.{_∙_, sym}
+use borrow.Author.Needs.{needs}
 use Rattle.normal.specs.Stretches.{stretchesOf}
 use Rattle.normal.proofs.Spot.{same-altered}
-use borrow.Author.Needs.{needs}
 use Rattle.normal.proofs.engine.normalise.Statement.{statement}
 use Rattle.normal.proofs.engine.normalise.Tie as tie
 

@@ -1,6 +1,6 @@
 -- The smaller of a common length and the room that the other leaves.
-use Rattle.normal.specs.Form.{within}
 use borrow.Author.Needs.{needs}
+use Rattle.normal.specs.Form.{within}
 use Rattle.normal.proofs.engine.within_room.Statement.{statement}
 use Rattle.normal.proofs.engine.within_room.Tie as tie
 

@@ -4,10 +4,10 @@ use native.Mathlib.Omega.{arith}
 use mathlib.Core.Path.{_∙_, sym}
 use mathlib.Core.List.{_++_}
 use lib.ListN.{length}
+use borrow.Author.Needs.{needs}
 use Rattle.stretch.specs.Common.{lcs}
 use Rattle.stretch.proofs.Suffix.{lcs-le-left, lcs-within}
 use Rattle.normal.proofs.Flanks.{rolled-left}
-use borrow.Author.Needs.{needs}
 use Rattle.normal.proofs.roll.roll_left.Statement.{statement}
 use Rattle.normal.proofs.roll.roll_left.Tie as tie
 

@@ -1,13 +1,13 @@
 -- It stops within the replacement, or goes through it.
-use native.Mathlib.Omega.{arith}
 use Prim.Native.Nat.{_≤_}
+use native.Mathlib.Omega.{arith}
 use mathlib.Core.List.{_++_}
-use lib.ListN.{length}
 use mathlib.Core.Path.{_∙_, sym}
+use lib.ListN.{length}
+use borrow.Author.Needs.{needs}
 use Rattle.stretch.specs.Common.{lcp}
 use Rattle.stretch.proofs.Common.{lcp-le-left, lcp-within}
 use Rattle.normal.proofs.Flanks.{rolled-right}
-use borrow.Author.Needs.{needs}
 use Rattle.normal.proofs.roll.roll_right.Statement.{statement}
 use Rattle.normal.proofs.roll.roll_right.Tie as tie
 

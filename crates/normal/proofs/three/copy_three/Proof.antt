@@ -1,6 +1,6 @@
 -- Three writes in a row are one.
-use Rattle.normal.proofs.Joined.{over-three}
 use borrow.Author.Needs.{needs}
+use Rattle.normal.proofs.Joined.{over-three}
 use Rattle.normal.proofs.three.copy_three.Statement.{statement}
 use Rattle.normal.proofs.three.copy_three.Tie as tie
 

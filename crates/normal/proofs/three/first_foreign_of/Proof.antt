@@ -1,9 +1,9 @@
 -- The first stretch with a foreign byte decides.
 use native.Mathlib.Omega.{arith}
 use mathlib.Core.Path.{_∙_}
+use borrow.Author.Needs.{needs}
 use Rattle.letters.proofs.Outside.{foreign-le}
 use Rattle.normal.proofs.Joined.{foreign-first, foreign-second, foreign-third}
-use borrow.Author.Needs.{needs}
 use Rattle.normal.proofs.three.first_foreign_of.Statement.{statement}
 use Rattle.normal.proofs.three.first_foreign_of.Tie as tie
 

@@ -1,8 +1,8 @@
 -- Stretches of one length are one where they are shared whole.
 use mathlib.Core.Path.{sym}
+use borrow.Author.Needs.{needs}
 use Rattle.stretch.proofs.Common.{same-lcp}
 use Rattle.stretch.proofs.Same.{same-lengths}
-use borrow.Author.Needs.{needs}
 use Rattle.stretch.proofs.compare.equal.Statement.{statement}
 use Rattle.stretch.proofs.compare.equal.Tie as tie
 

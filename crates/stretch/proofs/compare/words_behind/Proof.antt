@@ -16,8 +16,8 @@ Inv-loop a b room i₀ i = (i ≤ room) × (lcs a b ≡ i + lcs (take (length a 
 abbrev μ-loop : tie.MeasureT-loop
 μ-loop a b room i₀ i = room - i
 
-shorter-requires : tie.Need-shorter-requires Inv-loop μ-loop
-shorter-requires c κs = search needs
+smaller-requires : tie.Need-smaller-requires Inv-loop μ-loop
+smaller-requires c κs = search needs
 
 loop-holds : tie.Need-loop-holds Inv-loop μ-loop
 loop-holds c = (omega arith, lcs-begin _ _)
@@ -71,7 +71,7 @@ words-behind-spec =
     (tie.spec
     Inv-loop
     μ-loop
-    shorter-requires
+    smaller-requires
     loop-holds
     sub-loop
     sub-read-word

@@ -1,8 +1,8 @@
 -- A first byte 0 stands alone.
 use native.Mathlib.Omega.{arith}
 use mathlib.Core.Path.{sym}
-use Rattle.text.proofs.Reading.{read-empty, read-zero, read-padded}
 use borrow.Author.Needs.{needs}
+use Rattle.text.proofs.Reading.{read-empty, read-zero, read-padded}
 use Rattle.text.proofs.decimal.read_decimal.Statement.{statement}
 use Rattle.text.proofs.decimal.read_decimal.Tie as tie
 
