@@ -6,8 +6,9 @@ use mathlib.Core.Path.{_≡_, refl, sym, ap}
 use mathlib.Core.List.{List, [], _++_}
 use lib.ListN.{length, drop, length-append, length-drop, drop-of-length-le}
 use lib.Seq.{take-append-le, drop-append-le, drop-drop}
-use Rattle.sha512.specs.declared.Hash.{Hash}
-use Rattle.sha512.specs.Message.{absorbed, hashed, rest}
+use Rattle.compression.specs.declared.Hash.{Hash}
+use Rattle.compression.specs.Blocks.{absorbed, hashed}
+use Rattle.sha512.specs.Message.{rest}
 
 -- the first n blocks don't see what follows them
 absorbed-first : (n : ℕ) (s : Hash) (xs ys : List ℕ) → n * 128 ≤ length xs → absorbed n s (xs ++ ys) ≡ absorbed n s xs

@@ -8,10 +8,11 @@ use lib.ListN.{length, take, drop, replicate, length-append, take-append-drop}
 use lib.Seq.{take-append-seam}
 use Rattle.stretch.specs.Over.{over}
 use Rattle.stretch.proofs.Over.{over-front, over-over}
-use Rattle.sha512.specs.declared.Hash.{Hash}
+use Rattle.compression.specs.declared.Hash.{Hash}
 use Rattle.sha512.specs.declared.Running.{Running}
-use Rattle.sha512.specs.Constants.{initial}
-use Rattle.sha512.specs.Message.{hashed, rest, padding, sha512}
+use Rattle.compression.specs.Constants.{initial}
+use Rattle.compression.specs.Blocks.{hashed}
+use Rattle.sha512.specs.Message.{rest, padding, sha512}
 use Rattle.sha512.specs.Parts.{filled, begun, waiting, after, fed, joined, fedAll, finished}
 use Rattle.sha512.proofs.Padding.{drop-replicate}
 use Rattle.sha512.proofs.Blocks.{hashed-on, rest-on, hashed-short, rest-short, rest-block, length-rest}

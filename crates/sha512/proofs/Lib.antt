@@ -1,5 +1,4 @@
 pub mod Numbers
-pub mod Step
 pub mod Blocks
 pub mod Padding
 pub mod Join

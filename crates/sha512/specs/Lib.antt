@@ -1,5 +1,2 @@
-pub mod Words
-pub mod Constants
-pub mod Block
 pub mod Message
 pub mod Parts

@@ -1,10 +1,10 @@
 -- FIPS 180-4, sections 5.1.2, 5.2.2 and 6.4: padding, blocks, and the digest of a message of bytes.
 use Prim.Native.Nat.{ℕ, zero, suc, _-_, _*_, _/_, _%_}
 use mathlib.Core.List.{List, [], _∷_, _++_}
-use lib.ListN.{length, take, drop, replicate}
-use Rattle.sha512.specs.declared.Hash.{Hash}
-use Rattle.sha512.specs.Constants.{initial}
-use Rattle.sha512.specs.Block.{compressed}
+use lib.ListN.{length, drop, replicate}
+use Rattle.compression.specs.declared.Hash.{Hash}
+use Rattle.compression.specs.Constants.{initial}
+use Rattle.compression.specs.Blocks.{hashed}
 
 -- the n bytes of a number, the most significant first
 unfoldable pub bytesOf : ℕ → ℕ → List ℕ
@@ -14,15 +14,6 @@ bytesOf (suc n) x = bytesOf n (x / 256) ++ (x % 256 ∷ [])
 -- what follows a message of n bytes: a bit 1, as few zeros as fill the last block up to its last 16 bytes, and there the length in bits
 unfoldable pub padding : ℕ → List ℕ
 padding n = 0x80 ∷ (replicate ((239 - n % 128) % 128) 0 ++ bytesOf 16 (n * 8))
-
--- the hash value after the first n blocks of m
-unfoldable pub absorbed : ℕ → Hash → List ℕ → Hash
-absorbed zero s m = s
-absorbed (suc n) s m = compressed (absorbed n s m) (take 128 (drop (n * 128) m))
-
--- after all its whole blocks
-unfoldable pub hashed : Hash → List ℕ → Hash
-hashed s m = absorbed (length m / 128) s m
 
 -- the bytes behind the whole blocks
 unfoldable pub rest : List ℕ → List ℕ

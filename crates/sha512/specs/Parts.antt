@@ -2,10 +2,11 @@
 use Prim.Native.Nat.{ℕ, _+_, _-_, _%_, _^_}
 use mathlib.Core.List.{List, [], _∷_, _++_}
 use lib.ListN.{length, take, replicate}
-use Rattle.sha512.specs.declared.Hash.{Hash}
+use Rattle.compression.specs.declared.Hash.{Hash}
 use Rattle.sha512.specs.declared.Running.{Running}
-use Rattle.sha512.specs.Constants.{initial}
-use Rattle.sha512.specs.Message.{padding, hashed, rest, hashBytes}
+use Rattle.compression.specs.Constants.{initial}
+use Rattle.compression.specs.Blocks.{hashed}
+use Rattle.sha512.specs.Message.{padding, rest, hashBytes}
 
 -- a block that begins with some bytes and goes on with zeros
 unfoldable pub filled : List ℕ → List ℕ

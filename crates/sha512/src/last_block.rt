@@ -1,11 +1,11 @@
 // The end of a message: padding (FIPS 180-4, section 5.1.2) and the digest's bytes.
-use super::Hash;
 use super::Running;
 use super::big_endian::put_four;
 use super::big_endian::write_number;
-use super::block::absorb;
 use super::parts::begin;
 use super::parts::feed;
+use compression::Hash;
+use compression::absorb;
 use stretch::copy;
 ghost use mathlib.Core.Path.{_≡_};
 ghost use mathlib.Core.List.{_++_};

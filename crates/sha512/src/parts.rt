@@ -1,8 +1,8 @@
 // A message that comes in parts. The state goes in by value and comes back.
-use super::Hash;
 use super::Running;
-use super::block::absorb;
-use super::constants::initial_hash;
+use compression::Hash;
+use compression::absorb;
+use compression::initial_hash;
 use std::num::wrapping_add_u64;
 use stretch::copy;
 use stretch::copy_at;

@@ -3,9 +3,10 @@ use mathlib.Core.Path.{_≡_, refl}
 use mathlib.Core.List.{[]}
 use Rattle.stretch.specs.Ascii.{ascii}
 use Rattle.stretch.specs.BigEndian.{bigEndian}
-use Rattle.sha512.specs.Constants.{K}
-use Rattle.sha512.specs.Block.{blockWords, schedule, roundAt, rounds, compressed}
-use Rattle.sha512.specs.Message.{bytesOf, padding, absorbed, hashed, fourWords, hashBytes, sha512}
+use Rattle.compression.specs.Constants.{K}
+use Rattle.compression.specs.Block.{blockWords, schedule, roundAt, rounds, compressed}
+use Rattle.compression.specs.Blocks.{absorbed, hashed}
+use Rattle.sha512.specs.Message.{bytesOf, padding, fourWords, hashBytes, sha512}
 use Rattle.digest.specs.Base64.{character, encoded}
 use Rattle.digest.specs.Identifier.{digestText, sha512t24u}
 
