@@ -118,7 +118,7 @@ def main(command):
             print(f"FAILED: input {given[:200]!r} of {len(given)} bytes: printed {printed[:200]!r}, not {wanted[:200]!r}")
             return 1
         tried += 1
-    print(f"{tried} inputs")
+    print(f"lines: ok, {tried} inputs are answered as the second program says")
     return 0
 
 
