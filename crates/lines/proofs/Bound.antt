@@ -22,25 +22,25 @@ use Rattle.text.specs.declared.Number.{Number}
 use Rattle.text.specs.declared.Number.the-variants.{Is, Absent}
 use Rattle.text.specs.Number.{numberOf}
 use Rattle.text.proofs.Digits.{decimal-within}
-use Rattle.lines.specs.Cut.{parted, ahead}
+use Rattle.lines.specs.Cut.{parted, onFirst}
 use Rattle.lines.specs.Said.{Said, unread, allele, space, replacementOf, numbered, saidBy, said}
 use Rattle.lines.specs.Answers.{shown, formText, verdictText, saidText, answerLine}
 use Rattle.lines.proofs.Laying.{word-short}
 
 -- no piece is longer than the text
-ahead-short : (c n : ℕ) (ps : List (List ℕ)) → ((i : ℕ) → length (getD ps i []) ≤ n) → (i : ℕ) → length (getD (ahead c ps) i []) ≤ suc n
-ahead-short c n [] f zero = omega arith
-ahead-short c n [] f (suc i) = omega arith
-ahead-short c n (p ∷ ps) f zero = omega (arith, f 0)
-ahead-short c n (p ∷ ps) f (suc i) = omega (arith, f (suc i))
+onFirst-short : (c n : ℕ) (ps : List (List ℕ)) → ((i : ℕ) → length (getD ps i []) ≤ n) → (i : ℕ) → length (getD (onFirst c ps) i []) ≤ suc n
+onFirst-short c n [] f zero = omega arith
+onFirst-short c n [] f (suc i) = omega arith
+onFirst-short c n (p ∷ ps) f zero = omega (arith, f 0)
+onFirst-short c n (p ∷ ps) f (suc i) = omega (arith, f (suc i))
 
 parted-short : (mark : ℕ) (s : List ℕ) (i : ℕ) → length (getD (parted mark s) i []) ≤ length s
 unfolding parted
 parted-short mark [] zero = omega arith
 parted-short mark [] (suc i) = omega arith
-parted-short mark (c ∷ s) zero = by-cases (eqb c mark) (λ e. rw e (omega arith)) (λ e. rw e (ahead-short c (length s) (parted mark s) (parted-short mark s) 0))
+parted-short mark (c ∷ s) zero = by-cases (eqb c mark) (λ e. rw e (omega arith)) (λ e. rw e (onFirst-short c (length s) (parted mark s) (parted-short mark s) 0))
 parted-short mark (c ∷ s) (suc i) =
-    by-cases (eqb c mark) (λ e. rw e (omega (arith, parted-short mark s i))) (λ e. rw e (ahead-short c (length s) (parted mark s) (parted-short mark s) (suc i)))
+    by-cases (eqb c mark) (λ e. rw e (omega (arith, parted-short mark s i))) (λ e. rw e (onFirst-short c (length s) (parted mark s) (parted-short mark s) (suc i)))
 
 replacement-short : (f : List ℕ) → length (replacementOf f) ≤ length f
 unfolding replacementOf

@@ -6,15 +6,15 @@ use lib.Dec.{eqb}
 use lib.ListN.{drop}
 use Rattle.letters.specs.Letters.{firstOutside}
 
--- c put before the first piece
-abbrev pub ahead : ℕ → List (List ℕ) → List (List ℕ)
-ahead c [] = (c ∷ []) ∷ []
-ahead c (p ∷ ps) = (c ∷ p) ∷ ps
+-- c put on the front of the first piece
+abbrev pub onFirst : ℕ → List (List ℕ) → List (List ℕ)
+onFirst c [] = (c ∷ []) ∷ []
+onFirst c (p ∷ ps) = (c ∷ p) ∷ ps
 
 -- the pieces, which may be empty, and are one more than the cuts
 unfoldable pub parted : ℕ → List ℕ → List (List ℕ)
 parted mark [] = [] ∷ []
-parted mark (c ∷ s) = cond (eqb c mark) ([] ∷ parted mark s) (ahead c (parted mark s))
+parted mark (c ∷ s) = cond (eqb c mark) ([] ∷ parted mark s) (onFirst c (parted mark s))
 
 -- where the first piece ends: the offset of the first mark, or the length where there is none
 abbrev pub other : ℕ → ℕ → Bool

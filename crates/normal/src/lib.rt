@@ -1,7 +1,8 @@
 // The fully justified normal form of an allele on a lent reference (document 01, "The normal form").
 //
 // specs/Form.antt has the form over the reference and the altered sequence, specs/Stretches.antt its
-// replacement as three stretches, and specs/Calls.antt what the calls promise.
+// replacement as three stretches, specs/Calls.antt what the calls promise, specs/Steps.antt VRS's own
+// steps to the same form, and specs/Worked.antt document 01's worked alleles.
 mod call;
 mod engine;
 mod roll;

@@ -4,36 +4,26 @@ use borrow.Author.Needs.{needs}
 use Rattle.normal.proofs.Answers.{located-fits, clean-located, refused-located}
 use Rattle.normal.proofs.call.locate_clean.Statement.{statement}
 use Rattle.normal.proofs.call.locate_clean.Tie as tie
-use Rattle.normal.proofs.call.locate_clean.Reads as reads
-use Rattle.normal.proofs.call.locate_clean.Lts as lts
-use Rattle.normal.proofs.call.clean.Reads as clean-reads
-use Rattle.normal.proofs.call.locate.Reads as locate-reads
 
--- src/call.rt:85:9
 locate-requires : tie.Need-locate-requires
 locate-requires c κs = search needs
 
--- src/call.rt:87:27
 enum-known-found : tie.Need-enum-known-found
 enum-known-found c = search needs
 
--- src/call.rt:87:33
 clean-requires : tie.Need-clean-requires
 clean-requires c κs =
     let f = c .before in
     located-fits _ _ _ _ _ (sym (f .found .given .1) ∙ f .before .before .locate .ensures)
 
--- src/call.rt:88:26
 enum-known-found-2 : tie.Need-enum-known-found-2
 enum-known-found-2 c = search needs
 
--- src/call.rt:82:1
 returns : tie.Need-returns
 returns c =
     let f = c .before .before in
     c .clean .ensures ∙ clean-located _ _ _ _ _ (sym (f .found .given .1) ∙ f .before .before .locate .ensures)
 
--- src/call.rt:82:1
 returns-2 : tie.Need-returns-2
 returns-2 c =
     let f = c .before in

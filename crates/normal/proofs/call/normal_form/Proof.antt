@@ -4,40 +4,29 @@ use borrow.Author.Needs.{needs}
 use Rattle.normal.proofs.Answers.{clean-fits, lays-normal, unformed}
 use Rattle.normal.proofs.call.normal_form.Statement.{statement}
 use Rattle.normal.proofs.call.normal_form.Tie as tie
-use Rattle.normal.proofs.call.normal_form.Reads as reads
-use Rattle.normal.proofs.call.normal_form.Lts as lts
-use Rattle.normal.proofs.call.locate_clean.Reads as locate-clean-reads
-use Rattle.normal.proofs.call.write.Reads as write-reads
 
--- src/call.rt:97:9
 locate-clean-requires : tie.Need-locate-clean-requires
 locate-clean-requires c κs = search needs
 
--- src/call.rt:99:27
 enum-known-found : tie.Need-enum-known-found
 enum-known-found c = search needs
 
--- src/call.rt:99:33
 write-requires : tie.Need-write-requires
 write-requires c κs =
     let f = c .before .before in
     clean-fits _ _ _ _ _ (sym (f .found .given .1) ∙ f .before .before .locate-clean .ensures)
 
--- src/call.rt:100:26
 enum-known-found-2 : tie.Need-enum-known-found-2
 enum-known-found-2 c = search needs
 
--- src/call.rt:94:1
 same-length : tie.Need-same-length
 same-length c = search needs
 
--- src/call.rt:94:1
 returns : tie.Need-returns
 returns c =
     let f = c .before .before .before .before .before in
     lays-normal _ _ _ _ _ _ _ _ _ (sym (f .found .given .1) ∙ f .before .before .locate-clean .ensures) (c .before .before .write .ensures)
 
--- src/call.rt:94:1
 returns-2 : tie.Need-returns-2
 returns-2 c =
     let f = c .before in

@@ -3,111 +3,83 @@ use mathlib.Core.Path.{refl, _∙_, sym}
 use borrow.Author.Needs.{needs}
 use Rattle.stretch.proofs.Over.{over-tail-front}
 use Rattle.refusal.proofs.Sum.{place-within}
-use Rattle.refusal.proofs.refuse.Reads as refuse-reads
-use Rattle.refusal.proofs.sum_exceeds.Reads as sum-exceeds-reads
 use Rattle.normal.specs.Stretches.{joined}
 use Rattle.normal.proofs.Answers.{lays-nothing, room-left, room-for, lays-all}
 use Rattle.normal.proofs.call.write.Statement.{statement}
 use Rattle.normal.proofs.call.write.Tie as tie
-use Rattle.normal.proofs.call.write.Reads as reads
-use Rattle.normal.proofs.call.write.Lts as lts
-use Rattle.normal.proofs.three.copy_three.Reads as copy-three-reads
 
--- src/call.rt:72:19
 sub-length : tie.Need-sub-length
 sub-length c = search needs
 
--- src/call.rt:72:35
 sub-length-2 : tie.Need-sub-length-2
 sub-length-2 c = search needs
 
--- src/call.rt:72:19
 add-length : tie.Need-add-length
 add-length c = search needs
 
--- src/call.rt:72:49
 sub-length-3 : tie.Need-sub-length-3
 sub-length-3 c = search needs
 
--- src/call.rt:72:19
 add-length-2 : tie.Need-add-length-2
 add-length-2 c = search needs
 
--- src/call.rt:73:8
 sum-exceeds-requires : tie.Need-sum-exceeds-requires
 sum-exceeds-requires c κs = search needs
 
--- src/call.rt:74:36
 refuse-requires : tie.Need-refuse-requires
 refuse-requires c κs = search needs
 
--- src/call.rt:74:9
 returns : tie.Need-returns
 returns c =
     let b = c .before .before in
     let s = b .before .before .before .before in
     rw (c .refuse .ensures) (lays-nothing _ _ _ _ (s .args .w) (s .pre) _ refl _ _ (sym (b .sum-exceeds .ensures) ∙ c .before .if1 .taken))
 
--- src/call.rt:77:16
 sub-copy-three : tie.Need-sub-copy-three
 sub-copy-three c = place-within _ _ _ (sym (c .before .sum-exceeds .ensures) ∙ c .if1 .left)
 
--- src/call.rt:77:16
 part-copy-three-start : tie.Need-part-copy-three-start
 part-copy-three-start c = place-within _ _ _ (sym (c .before .sum-exceeds .ensures) ∙ c .if1 .left)
 
--- src/call.rt:77:16
 part-copy-three-end : tie.Need-part-copy-three-end
 part-copy-three-end c = search needs
 
--- src/call.rt:77:32
 sub-copy-three-2 : tie.Need-sub-copy-three-2
 sub-copy-three-2 c = search needs
 
--- src/call.rt:77:32
 part-copy-three-start-2 : tie.Need-part-copy-three-start-2
 part-copy-three-start-2 c = search needs
 
--- src/call.rt:77:32
 part-copy-three-end-2 : tie.Need-part-copy-three-end-2
 part-copy-three-end-2 c = search needs
 
--- src/call.rt:77:57
 sub-copy-three-3 : tie.Need-sub-copy-three-3
 sub-copy-three-3 c = search needs
 
--- src/call.rt:77:57
 part-copy-three-start-3 : tie.Need-part-copy-three-start-3
 part-copy-three-start-3 c = search needs
 
--- src/call.rt:77:57
 part-copy-three-end-3 : tie.Need-part-copy-three-end-3
 part-copy-three-end-3 c = search needs
 
--- src/call.rt:77:81
 sub-copy-three-4 : tie.Need-sub-copy-three-4
 sub-copy-three-4 c = search needs
 
--- src/call.rt:77:81
 part-copy-three-start-4 : tie.Need-part-copy-three-start-4
 part-copy-three-start-4 c = search needs
 
--- src/call.rt:77:81
 part-copy-three-end-4 : tie.Need-part-copy-three-end-4
 part-copy-three-end-4 c = search needs
 
--- src/call.rt:77:5
 copy-three-requires : tie.Need-copy-three-requires
 copy-three-requires c κs =
     let b = c .before .before .before .before in
     let s = b .before .before .before .before .before in
     room-for _ _ _ _ (s .args .w) (s .pre) _ refl (s .args .out .now) (s .args .place) (sym (b .before .sum-exceeds .ensures) ∙ b .if1 .left)
 
--- src/call.rt:64:1
 same-length : tie.Need-same-length
 same-length c = search needs
 
--- src/call.rt:64:1
 returns-2 : tie.Need-returns-2
 unfolding joined
 returns-2 c =
