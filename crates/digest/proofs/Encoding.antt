@@ -11,8 +11,10 @@ use borrow.Author.Tests.{eqb-true}
 use Rattle.stretch.specs.Over.{over}
 use Rattle.stretch.proofs.Over.{over-next, over-tail-front}
 use Rattle.stretch.proofs.Cases.{below, below-at}
+use Rattle.sha512.specs.Message.{sha512}
+use Rattle.sha512.proofs.Numbers.{length-sha512}
 use Rattle.digest.specs.Base64.{character, group, encoded}
-use Rattle.digest.specs.Identifier.{digestText, sequencePrefix}
+use Rattle.digest.specs.Identifier.{digestText, sha512t24u}
 
 -- the alphabet as five ranges of values
 unfoldable pub ranged : ℕ → ℕ
@@ -61,10 +63,14 @@ pub length-digestText : (d : List ℕ) → 24 ≤ length d → length (digestTex
 unfolding digestText
 length-digestText d h = length-encoded 8 d h
 
-pub length-identifier : (d : List ℕ) → 24 ≤ length d → length (sequencePrefix ++ digestText d) ≡ 41
-length-identifier d h = rw (length-digestText d h)
+pub length-sha512t24u : (m : List ℕ) → length (sha512t24u m) ≡ 32
+unfolding sha512t24u
+length-sha512t24u m = length-digestText (sha512 m) (omega (arith, length-sha512 m))
+
+pub length-identifier : (prefix d : List ℕ) → 24 ≤ length d → length (prefix ++ digestText d) ≡ length prefix + 32
+length-identifier prefix d h = rw (length-append prefix (digestText d), length-digestText d h)
 
 -- an identifier written into a tail that was lent and comes back
-pub identifier-laid : (out d : List ℕ) (place : ℕ) → place + 41 ≤ length out → 24 ≤ length d
-    → take place out ++ (over (take (length out - place) (drop place out)) 0 (sequencePrefix ++ digestText d) ++ drop (length out - place) (drop place out)) ≡ over out place (sequencePrefix ++ digestText d)
-identifier-laid out d place h n = over-tail-front out place (sequencePrefix ++ digestText d) (omega (arith, length-identifier d n))
+pub identifier-laid : (out prefix d : List ℕ) (place : ℕ) → place + (length prefix + 32) ≤ length out → 24 ≤ length d
+    → take place out ++ (over (take (length out - place) (drop place out)) 0 (prefix ++ digestText d) ++ drop (length out - place) (drop place out)) ≡ over out place (prefix ++ digestText d)
+identifier-laid out prefix d place h n = over-tail-front out place (prefix ++ digestText d) (omega (arith, length-identifier prefix d n))

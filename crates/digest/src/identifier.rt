@@ -1,4 +1,4 @@
-// The identifier of a whole reference.
+// Identifiers: a prefix and the 32 characters of a digest; and the identifier of a whole reference.
 use super::base64::write_digest_text;
 use letters::first_foreign;
 use refusal::FOREIGN_BYTE;
@@ -16,8 +16,10 @@ ghost use lib.ListN.{length};
 ghost use Rattle.stretch.specs.Over.{over};
 ghost use Rattle.refusal.specs.Verdict.{accepted};
 ghost use Rattle.refusal.specs.Writes.{Writes};
-ghost use Rattle.digest.specs.Identifier.{digestText, sequencePrefix};
+ghost use Rattle.digest.specs.Identifier.{digestText};
 ghost use Rattle.digest.specs.Calls.{Identifies};
+
+pub const SEQUENCE_PREFIX: [u8; 9] = *b"ga4gh:SQ.";
 
 // The prefix and 32 characters.
 pub const IDENTIFIER_LENGTH: u64 = 41;
@@ -32,15 +34,16 @@ pub fn write_identifier(out: &mut [u8], prefix: &[u8], digest: &[u8])
     write_digest_text(&mut out[prefix.len()..], digest);
 }
 
-// Writes the sequence identifier of a digest into `out` from `place` on, where there is room.
-pub fn write_sequence(out: &mut [u8], place: u64, digest: &[u8]) -> Written
-    requires { ⌜ place + 41 ≤ length (now out) ⌝ }
+// Writes a prefix and the digest's 32 characters into `out` from `place` on, where there is room.
+pub fn place_identifier(out: &mut [u8], place: u64, prefix: &[u8], digest: &[u8]) -> Written
+    requires { ⌜ place + (length (now prefix) + 32) ≤ length (now out) ⌝ }
     requires { ⌜ 24 ≤ length (now digest) ⌝ }
-    ensures { λ r. ⌜ Writes accepted (sequencePrefix ++ digestText (now (digest .entry))) (now (out .entry)) place r (now (out .exit)) ⌝ }
+    ensures { λ r. ⌜ Writes accepted (now (prefix .entry) ++ digestText (now (digest .entry))) (now (out .entry)) place r (now (out .exit)) ⌝ }
 {
     let from = place as usize;
-    write_identifier(&mut out[from..], b"ga4gh:SQ.", digest);
-    Written::Bytes(IDENTIFIER_LENGTH)
+    write_identifier(&mut out[from..], prefix, digest);
+    let length = prefix.len() as u64 + 32;
+    Written::Bytes(length)
 }
 
 // Writes the identifier of the residues of `reference` into `out` from `place` on.
@@ -58,5 +61,5 @@ pub fn sequence_identifier(reference: &[u8], out: &mut [u8], place: u64) -> Writ
         return Written::Refused(refuse(OUTPUT_TOO_SHORT, IDENTIFIER_LENGTH));
     }
     let digest = sha512::of_message(reference);
-    write_sequence(out, place, &digest)
+    place_identifier(out, place, &SEQUENCE_PREFIX, &digest)
 }

@@ -5,6 +5,8 @@ mod identifier;
 mod running;
 
 pub use base64::group_of;
+pub use base64::write_digest_text;
+pub use identifier::place_identifier;
 pub use identifier::sequence_identifier;
 use refusal::Outcome;
 pub use running::begin;

@@ -1,7 +1,8 @@
 // The running digest of a reference that comes in parts. The state goes in by value and comes back.
 use super::Fed;
 use super::identifier::IDENTIFIER_LENGTH;
-use super::identifier::write_sequence;
+use super::identifier::SEQUENCE_PREFIX;
+use super::identifier::place_identifier;
 use letters::first_foreign;
 use refusal::FOREIGN_BYTE;
 use refusal::OUTPUT_TOO_SHORT;
@@ -62,5 +63,5 @@ pub fn finish(state: Running, out: &mut [u8], place: u64) -> Written
         return Written::Refused(refuse(OUTPUT_TOO_SHORT, IDENTIFIER_LENGTH));
     }
     let digest = sha512::finish(state);
-    write_sequence(out, place, &digest)
+    place_identifier(out, place, &SEQUENCE_PREFIX, &digest)
 }

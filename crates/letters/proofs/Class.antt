@@ -16,6 +16,11 @@ module _ (p : ℕ → Bool) where
   every-append [] ys = refl
   every-append (x ∷ xs) ys = by-cases (p x) (λ e. rw e (every-append xs ys)) (λ e. rw e)
 
+  pub every-front : (xs ys : List ℕ) → every p (xs ++ ys) ≡ true → every p xs ≡ true
+  unfolding every
+  every-front [] ys h = refl
+  every-front (x ∷ xs) ys h = by-cases (p x) (λ e. rw e (every-front xs ys (rw e at h))) (λ e. cc (rw e at h))
+
   pub every-at : (s : List ℕ) (i : ℕ) → every p s ≡ true → i < length s → p (getD s i 0) ≡ true
   unfolding every
   every-at [] i h l = absurd (not-suc-le-zero l)

@@ -48,6 +48,18 @@ module _ (p : ℕ → Bool) where
   firstOutside-at [] h = absurd (not-suc-le-zero h)
   firstOutside-at (x ∷ s) h = by-cases (p x) (λ e. rw e (firstOutside-at s (le-of-suc-le-suc (rw e at h)))) (λ e. rw e e)
 
+  -- all before it are inside, and no more than these
+  pub firstOutside-take : (s : List ℕ) → every p (take (firstOutside p s) s) ≡ true
+  unfolding firstOutside every
+  firstOutside-take [] = refl
+  firstOutside-take (x ∷ s) = by-cases (p x) (λ e. rw (e, e) (firstOutside-take s)) (λ e. rw e)
+
+  pub firstOutside-max : (s : List ℕ) (j : ℕ) → j ≤ length s → every p (take j s) ≡ true → j ≤ firstOutside p s
+  firstOutside-max s j h e =
+      let split : firstOutside p s ≡ length (take j s) + firstOutside p (drop j s)
+      = ap (firstOutside p) (sym (take-append-drop j s)) ∙ firstOutside-past (take j s) (drop j s) e in
+      omega (arith, length-take-le j s h)
+
   -- a loop that has passed i bytes: the next is inside, or outside, or there is none
   pub firstOutside-on : (s : List ℕ) (i : ℕ) → i < length s → p (getD s i 0) ≡ true
       → firstOutside p s ≡ i + firstOutside p (drop i s) → firstOutside p s ≡ i + 1 + firstOutside p (drop (i + 1) s)

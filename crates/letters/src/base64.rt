@@ -19,7 +19,8 @@ fn is_base64url(c: u8) -> bool
     c <= b'z'
 }
 
-fn first_outside(s: &[u8]) -> usize
+// The offset of the first byte that is no base64url character, or the length where there is none.
+pub fn first_outside_base64url(s: &[u8]) -> usize
     ensures { λ r. ⌜ r ≡ firstOutside base64url (now (s .entry)) ⌝ }
 {
     let mut i = 0;
@@ -40,7 +41,7 @@ pub fn check_digest_text(text: &[u8]) -> Outcome
     if text.len() != 32 {
         return Outcome::Refused(refuse(refusal::BAD_DIGEST_TEXT, 32));
     }
-    let at = first_outside(text);
+    let at = first_outside_base64url(text);
     if at < text.len() {
         return Outcome::Refused(refuse(refusal::BAD_DIGEST_TEXT, at as u64));
     }

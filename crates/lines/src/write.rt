@@ -1,11 +1,11 @@
 // Texts laid one behind the other.
 use normal::Kind;
-use normal::copy_three;
 use refusal::OUTPUT_TOO_SHORT;
 use refusal::Written;
 use refusal::refuse;
 use stretch::copy;
 use stretch::put;
+use stretch::put_three;
 use text::write_decimal;
 ghost use mathlib.Core.List.{_++_, _∷_, []};
 ghost use Prim.Native.Nat.{_+_, _≤_, _^_, _<_};
@@ -76,7 +76,7 @@ pub fn put_line(out: &mut [u8], front: &[u8], a: &[u8], b: &[u8], c: &[u8]) -> W
         return Written::Refused(refuse(OUTPUT_TOO_SHORT, end as u64 + 1));
     }
     copy(out, front);
-    copy_three(&mut out[front.len()..], a, b, c);
+    put_three(&mut out[front.len()..], 0, a, b, c);
     out[end] = b'\n';
     Written::Bytes(end as u64 + 1)
 }

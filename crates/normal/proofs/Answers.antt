@@ -27,11 +27,11 @@ use Rattle.normal.specs.Stretches.{Fits, joined, stretchesOf, formIn}
 use Rattle.normal.specs.Calls.{givenGrounds, foreignNormal, formGrounds, normalGrounds, located, locatedClean, cleanly, Forms, Lays, Normalises}
 use Rattle.normal.proofs.Join.{stretches-fit, stretches-join}
 
-told-accepted : (v : Verdict) (w u : Stretches) → Accepted w ≡ tell Refused v (Accepted u) → (v ≡ accepted) × (w ≡ u)
+pub told-accepted : (v : Verdict) (w u : Stretches) → Accepted w ≡ tell Refused v (Accepted u) → (v ≡ accepted) × (w ≡ u)
 told-accepted accepted w u h = (refl, cc)
 told-accepted (refused r) w u h = (cc, cc)
 
-told-refused : (v : Verdict) (why : Refusal) (u : Stretches) → Refused why ≡ tell Refused v (Accepted u) → v ≡ refused why
+pub told-refused : (v : Verdict) (why : Refusal) (u : Stretches) → Refused why ≡ tell Refused v (Accepted u) → v ≡ refused why
 told-refused accepted why u h = cc
 told-refused (refused r) why u h = cc
 

@@ -1,12 +1,9 @@
--- Three stretches as one text: its first foreign byte, and how it is laid over a buffer.
+-- Three stretches as one text: its first foreign byte.
 use Prim.Native.Nat.{ℕ, _+_, _<_, _≤_}
-use native.Mathlib.Nat.{zero-add}
 use native.Mathlib.Omega.{arith}
 use mathlib.Core.Path.{_≡_, _∙_, sym, ap}
-use mathlib.Core.List.{List, _++_, append-assoc}
-use lib.ListN.{length, length-append}
-use Rattle.stretch.specs.Over.{over}
-use Rattle.stretch.proofs.Over.{over-next}
+use mathlib.Core.List.{List, _++_}
+use lib.ListN.{length}
 use Rattle.letters.specs.Letters.{residue, foreign}
 use Rattle.letters.proofs.Outside.{foreign-le, foreign-none, firstOutside-past, firstOutside-within}
 
@@ -27,9 +24,3 @@ module _ (a b c : List ℕ) where
       let e : foreign b + foreign c ≡ foreign (b ++ c) = foreign-through b c g in
       let d : foreign a + foreign (b ++ c) ≡ foreign (a ++ (b ++ c)) = foreign-through a (b ++ c) h in
       omega arith
-
-  pub over-three : (to : List ℕ) → over (over (over to 0 a) (length a) b) (length a + length b) c ≡ over to 0 (a ++ (b ++ c))
-  over-three to =
-      ap (λ (l : List ℕ). over l (length a + length b) c) (over-next to 0 (length a) a b (omega arith) (omega arith))
-      ∙ over-next to 0 (length a + length b) (a ++ b) c (omega arith) (sym (zero-add (length (a ++ b)) ∙ length-append a b))
-      ∙ ap (over to 0) (append-assoc a b c)

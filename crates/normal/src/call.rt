@@ -4,7 +4,6 @@ use super::Located;
 use super::Normalised;
 use super::Stretches;
 use super::engine::normalise;
-use super::three::copy_three;
 use super::three::first_foreign_of;
 use letters::first_foreign;
 use refusal::END_ABOVE_REFERENCE;
@@ -17,6 +16,7 @@ use refusal::REPLACEMENT_LIMIT;
 use refusal::START_ABOVE_END;
 use refusal::refuse;
 use refusal::sum_exceeds;
+use stretch::put_three;
 ghost use mathlib.Core.Path.{_≡_};
 ghost use Rattle.normal.specs.Stretches.{Fits};
 ghost use Rattle.normal.specs.Calls.{located, locatedClean, cleanly, Lays, Normalises};
@@ -44,8 +44,14 @@ pub fn locate(reference: &[u8], start: u64, end: u64, replacement: &[u8]) -> Loc
     Located::Accepted(normalise(reference, start as usize, end as usize, replacement))
 }
 
-// 5, for an allele that passed the others.
-fn clean(reference: &[u8], start: usize, end: usize, replacement: &[u8], w: Stretches) -> Located
+// 5 alone, of stretches that `locate` found.
+pub fn clean(
+    reference: &[u8],
+    start: usize,
+    end: usize,
+    replacement: &[u8],
+    w: Stretches,
+) -> Located
     requires { ⌜ Fits (now reference) start end (now replacement) w ⌝ }
     ensures { λ r. ⌜ r ≡ cleanly (now (reference .entry)) start end (now (replacement .entry)) w ⌝ }
 {
@@ -86,8 +92,9 @@ fn write(
         return Normalised::Refused(refuse(OUTPUT_TOO_SHORT, length));
     }
     let at = place as usize;
-    copy_three(
+    put_three(
         &mut out[at..],
+        0,
         &reference[left..start],
         &replacement[from..to],
         &reference[end..right],

@@ -8,10 +8,10 @@ mod engine;
 mod roll;
 mod three;
 
+pub use call::clean;
 pub use call::locate;
 pub use call::locate_clean;
 pub use call::normal_form;
-pub use three::copy_three;
 pub use three::first_foreign_of;
 
 pub enum Kind {

@@ -1,12 +1,9 @@
-// Three stretches that lie apart and are one text.
+// The letters of three stretches that lie apart and are one text.
 use letters::first_foreign;
-use stretch::copy;
-use stretch::copy_at;
 ghost use mathlib.Core.Path.{_≡_};
 ghost use mathlib.Core.List.{_++_};
-ghost use Prim.Native.Nat.{_+_, _^_, _<_, _≤_};
+ghost use Prim.Native.Nat.{_+_, _^_, _<_};
 ghost use lib.ListN.{length};
-ghost use Rattle.stretch.specs.Over.{over};
 ghost use Rattle.letters.specs.Letters.{foreign};
 
 // The offset of the first byte of the text that is no residue, or its length where there is none.
@@ -23,14 +20,4 @@ pub fn first_foreign_of(a: &[u8], b: &[u8], c: &[u8]) -> usize
         return x + y;
     }
     x + y + first_foreign(c)
-}
-
-// Lays the text over the front of `to`.
-pub fn copy_three(to: &mut [u8], a: &[u8], b: &[u8], c: &[u8])
-    requires { ⌜ length (now a) + (length (now b) + length (now c)) ≤ length (now to) ⌝ }
-    ensures { λ _. ⌜ now (to .exit) ≡ over (now (to .entry)) 0 (now (a .entry) ++ (now (b .entry) ++ now (c .entry))) ⌝ }
-{
-    copy(to, a);
-    copy_at(to, a.len(), b);
-    copy_at(to, a.len() + b.len(), c);
 }

@@ -1,10 +1,13 @@
--- A sum held against a limit without being taken.
+-- A sum held against a limit without being taken, and the room that it leaves.
 use Prim.Native.Nat.{ℕ, _+_, _-_, _<_, _≤_}
 use native.Mathlib.Omega.{arith}
 use mathlib.Core.Path.{_≡_, refl, sym}
 use mathlib.Core.Bool.{Bool, true, false}
+use mathlib.Core.List.{List}
 use lib.Dec.{ltb}
+use lib.ListN.{length, take, drop, length-drop}
 use borrow.Author.Tests.{ltb-true, ltb-false, lt-ltb, le-ltb}
+use Rattle.stretch.proofs.Tail.{lent-tail}
 
 pub exceeds-first : (a b limit : ℕ) → limit < a → ltb limit (a + b) ≡ true
 exceeds-first a b limit h = lt-ltb limit (a + b) (omega arith)
@@ -19,3 +22,7 @@ exceeds-rest a b limit h = told a b limit (ltb (limit - a) b) h refl
 -- a place that leaves room for n bytes lies in the buffer
 pub place-within : (room place n : ℕ) → ltb room (place + n) ≡ false → place ≤ room
 place-within room place n t = omega (arith, ltb-false room (place + n) t)
+
+-- and the tail that is lent from there has that room
+pub tail-room : (out : List ℕ) (place n : ℕ) → ltb (length out) (place + n) ≡ false → n ≤ length (take (length out - place) (drop place out))
+tail-room out place n t = rw (lent-tail out place, length-drop place out) (omega (arith, ltb-false (length out) (place + n) t))

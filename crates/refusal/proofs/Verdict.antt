@@ -1,9 +1,10 @@
 -- What an accepted call tells of its grounds, and grounds that stand behind others.
 use Prim.Native.Nat.{ℕ, zero, suc}
-use mathlib.Core.Path.{_≡_, refl}
+use mathlib.Core.Path.{_≡_, refl, _∙_, sym}
 use mathlib.Core.Bool.{Bool, true, false}
 use mathlib.Core.List.{List, [], _∷_, _++_}
 use lib.ListN.{getD}
+use Rattle.refusal.specs.declared.Outcome.the-variants.{Accepted, Refused}
 use Rattle.refusal.specs.declared.Refusal.{Refusal}
 use Rattle.refusal.specs.Verdict.{Ground, Verdict, accepted, refused, ground, unless, verdict, tell}
 
@@ -50,3 +51,16 @@ pub verdict-fewer : (gs hs : List Ground) → verdict (gs ++ hs) ≡ accepted �
 verdict-fewer [] hs h = refl
 verdict-fewer (g ∷ gs) hs h =
     then-first (g .holds) (record { number = g .number; value = g .value }) (verdict gs) (verdict (gs ++ hs)) (verdict-fewer gs hs) h
+
+-- what is accepted under more grounds is accepted under the last of them
+pub verdict-later : (gs hs : List Ground) → verdict (gs ++ hs) ≡ accepted → verdict hs ≡ accepted
+verdict-later gs hs v = sym (verdict-then gs hs (verdict-fewer gs hs v)) ∙ v
+
+-- what the answer of a call that only accepts or refuses tells of its grounds
+pub outcome-accepted : (v : Verdict) → Accepted ≡ tell Refused v Accepted → v ≡ accepted
+outcome-accepted accepted h = refl
+outcome-accepted (refused r) h = cc
+
+pub outcome-refused : (v : Verdict) (why : Refusal) → Refused why ≡ tell Refused v Accepted → v ≡ refused why
+outcome-refused accepted why h = cc
+outcome-refused (refused r) why h = cc

@@ -8,3 +8,7 @@ referenceLimit = 1_000_000_000
 -- letters of a replacement as given
 abbrev pub replacementLimit : ℕ
 replacementLimit = 1_000_000
+
+-- letters of the sequence in an allele text that is read: a reference and a replacement together
+abbrev pub sequenceLimit : ℕ
+sequenceLimit = 1_001_000_000

@@ -38,9 +38,13 @@ pub const OUTPUT_TOO_SHORT: u64 = 6;
 
 pub const BAD_DIGEST_TEXT: u64 = 7;
 
+pub const TEXT_NOT_ACCEPTED: u64 = 8;
+
 pub const REFERENCE_LIMIT: u64 = 1_000_000_000;
 
 pub const REPLACEMENT_LIMIT: u64 = 1_000_000;
+
+pub const SEQUENCE_LIMIT: u64 = 1_001_000_000;
 
 pub fn refuse(number: u64, value: u64) -> Refusal
     ensures { λ r. ⌜ r ≡ record { number = number; value = value } ⌝ }

@@ -8,7 +8,7 @@ use lib.ListN.{length, take, drop, set, length-append, length-drop, length-set}
 use lib.Seq.{length-take-le, drop-cons, drop-set-lt, getD-set-same}
 use Rattle.stretch.specs.Over.{over}
 use Rattle.stretch.proofs.Over.{over-next, set-over, length-over}
-use Rattle.sha512.specs.Message.{bytesOf, fourWords}
+use Rattle.sha512.specs.Message.{bytesOf, fourWords, hashBytes, sha512}
 
 pub length-bytesOf : (n x : ℕ) → length (bytesOf n x) ≡ n
 unfolding bytesOf
@@ -48,6 +48,10 @@ put-words l p a b c d h =
 pub length-fourWords : (a b c d : ℕ) → length (fourWords a b c d) ≡ 32
 unfolding fourWords
 length-fourWords a b c d = simp (length-append, length-bytesOf)
+
+pub length-sha512 : (m : List ℕ) → length (sha512 m) ≡ 64
+unfolding sha512 hashBytes
+length-sha512 m = simp (length-append, length-fourWords)
 
 -- the bytes of a count of bits, from the count of bytes
 bits-bytes : (k n : ℕ) → bytesOf k (n / 32) ++ (n % 32 * 8 ∷ []) ≡ bytesOf (suc k) (n * 8)

@@ -12,3 +12,4 @@ pub use compare::smaller;
 pub use write::copy;
 pub use write::copy_at;
 pub use write::put;
+pub use write::put_three;

@@ -1,5 +1,6 @@
 // What is laid over a buffer.
 ghost use mathlib.Core.Path.{_≡_};
+ghost use mathlib.Core.List.{_++_};
 ghost use Prim.Native.Nat.{_+_, _≤_};
 ghost use lib.ListN.{length};
 ghost use Rattle.stretch.specs.Over.{over, Wrote};
@@ -31,4 +32,15 @@ pub fn put(to: &mut [u8], place: usize, from: &[u8]) -> usize
 {
     copy_at(to, place, from);
     place + from.len()
+}
+
+// Lays three stretches over `to`, one behind the other, from `place` on, and answers the place behind
+// them.
+pub fn put_three(to: &mut [u8], place: usize, a: &[u8], b: &[u8], c: &[u8]) -> usize
+    requires { ⌜ place + (length (now a) + (length (now b) + length (now c))) ≤ length (now to) ⌝ }
+    ensures { λ r. ⌜ Wrote (now (to .entry)) place (now (a .entry) ++ (now (b .entry) ++ now (c .entry))) (now (to .exit)) r ⌝ }
+{
+    let second = put(to, place, a);
+    let third = put(to, second, b);
+    put(to, third, c)
 }

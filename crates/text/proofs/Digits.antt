@@ -48,6 +48,16 @@ decimal-tenth n h =
     steps (enough n) (suc (enough n)) n (is-enough n) (rw (pow-suc 10 (suc (enough n))) more)
     ∙ rw (le-ltb n 10 h, steps (enough n) (enough (n / 10)) (n / 10) (omega (arith, is-enough n)) (is-enough (n / 10)))
 
+-- one digit more
+pub decimal-on : (n d : ℕ) → 0 < n → d < 10 → decimal (n * 10 + d) ≡ decimal n ++ (digit d ∷ [])
+decimal-on n d l h = decimal-tenth (n * 10 + d) (omega arith) ∙ (λ j. decimal (tenth j) ++ (digit (last j) ∷ []))
+  where
+    tenth : (n * 10 + d) / 10 ≡ n
+    tenth = omega arith
+
+    last : (n * 10 + d) % 10 ≡ d
+    last = omega arith
+
 -- what holds below ten, and of a number where it holds of its tenth part, holds of every number
 module _ (P : ℕ → Type 0) (low : (n : ℕ) → n < 10 → P n) (up : (n : ℕ) → 10 ≤ n → P (n / 10) → P n) where
   within : (a n : ℕ) → n ≤ a → P n

@@ -1,4 +1,5 @@
 pub mod Digits
 pub mod Reading
 pub mod Writing
+pub mod Layouts
 pub mod Worked

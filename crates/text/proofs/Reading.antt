@@ -16,7 +16,7 @@ use Rattle.text.specs.declared.Number.{Number}
 use Rattle.text.specs.declared.Number.the-variants.{Is, Absent}
 use Rattle.text.specs.Decimal.{digit, decimal}
 use Rattle.text.specs.Number.{valueFrom, value, numberOf, Reads, is, absent}
-use Rattle.text.proofs.Digits.{decimal-below, decimal-tenth, by-tenths, decimal-long, decimal-digits, decimal-front}
+use Rattle.text.proofs.Digits.{decimal-below, decimal-tenth, decimal-on, by-tenths, decimal-long, decimal-digits, decimal-front}
 
 valueFrom-append : (v : ℕ) (s t : List ℕ) → valueFrom v (s ++ t) ≡ valueFrom (valueFrom v s) t
 unfolding valueFrom
@@ -32,6 +32,11 @@ valueFrom-le v (c ∷ s) = omega (arith, valueFrom-le (v * 10 + (c - 0x30)) s)
 pub value-on : (s t : List ℕ) → value s ≤ value (s ++ t)
 unfolding value
 value-on s t = rw (valueFrom-append 0 s t) (valueFrom-le (valueFrom 0 s) t)
+
+-- one byte more
+pub value-snoc : (s : List ℕ) (c : ℕ) → value (s ++ (c ∷ [])) ≡ value s * 10 + (c - 0x30)
+unfolding value valueFrom
+value-snoc s c = valueFrom-append 0 s (c ∷ [])
 
 -- a decimal stands for its number
 pub value-decimal : (n : ℕ) → value (decimal n) ≡ n
@@ -114,15 +119,7 @@ digits-on zero d h l = digits-pos (0 * 10 + d) l ∙ ap decimal (alone d) ∙ de
   where
     alone : (k : ℕ) → 0 * 10 + k ≡ k
     alone k = omega arith
-digits-on (suc n) d h l =
-    digits-pos (suc n * 10 + d) l ∙ decimal-tenth (suc n * 10 + d) (omega arith)
-    ∙ (λ j. decimal (tenth j) ++ (digit (last j) ∷ []))
-  where
-    tenth : (suc n * 10 + d) / 10 ≡ suc n
-    tenth = omega arith
-
-    last : (suc n * 10 + d) % 10 ≡ d
-    last = omega arith
+digits-on (suc n) d h l = digits-pos (suc n * 10 + d) l ∙ decimal-on (suc n) d (omega arith) h
 
 -- a loop that has read i bytes of s, which are the digits of n
 pub record Read (s : List ℕ) (i n : ℕ) : Type 0 where

@@ -14,6 +14,16 @@ fn character(d: u64) -> u8
     b'0' + d as u8
 }
 
+// How long the decimal of `n` is.
+pub fn decimal_length(n: u64) -> usize
+    ensures { λ r. ⌜ r ≡ length (decimal n) ⌝ }
+{
+    if n < 10 {
+        return 1;
+    }
+    decimal_length(n / 10) + 1
+}
+
 // Lays the decimal of `n` over the front of `out`, and answers how long it is.
 pub fn write_decimal(out: &mut [u8], n: u64) -> usize
     requires { ⌜ length (decimal n) ≤ length (now out) ⌝ }

@@ -39,24 +39,27 @@ returns-3 c = let b = c .before .before .before in
 of-message-requires : tie.Need-of-message-requires
 of-message-requires c κs = search needs
 
-slice-aggregate-write-sequence : tie.Need-slice-aggregate-write-sequence
-slice-aggregate-write-sequence c = search needs
+slice-aggregate-place-identifier : tie.Need-slice-aggregate-place-identifier
+slice-aggregate-place-identifier c = search needs
 
-write-sequence-requires : tie.Need-write-sequence-requires
-write-sequence-requires c κs = let long : length (c .before .before .of-message .result) ≡ 64 = search needs in
-    (ltb-false _ _ (sym (c .before .before .before .before .sum-exceeds .ensures) ∙ c .before .before .before .if3 .left), omega arith)
+slice-aggregate-place-identifier-2 : tie.Need-slice-aggregate-place-identifier-2
+slice-aggregate-place-identifier-2 c = search needs
+
+place-identifier-requires : tie.Need-place-identifier-requires
+place-identifier-requires c κs = let long : length (c .before .before .before .of-message .result) ≡ 64 = search needs in
+    (ltb-false _ _ (sym (c .before .before .before .before .before .sum-exceeds .ensures) ∙ c .before .before .before .before .if3 .left), omega arith)
 
 same-length : tie.Need-same-length
 same-length c = search needs
 
 returns-4 : tie.Need-returns-4
 unfolding sequenceIdentifier sha512t24u
-returns-4 c = let b = c .before .before .before .before .before in
+returns-4 c = let b = c .before .before .before .before .before .before in
     let g = b .before .before .before in
     writes-as _ _ _ _ _ _ _ _
     (simp (le-ltb _ _ (g .before .before .if1 .left), ← g .before .first-foreign .ensures, le-ltb _ _ (g .if2 .left), sym (b .before .before .sum-exceeds .ensures) ∙ b .before .if3 .left))
     (rw (b .of-message .ensures))
-    (c .before .before .write-sequence .ensures)
+    (c .before .before .place-identifier .ensures)
 
 pub sequence-identifier-spec : {M : Type 1} → statement M
 sequence-identifier-spec =
@@ -71,7 +74,8 @@ sequence-identifier-spec =
     refuse-requires-3
     returns-3
     of-message-requires
-    slice-aggregate-write-sequence
-    write-sequence-requires
+    slice-aggregate-place-identifier
+    slice-aggregate-place-identifier-2
+    place-identifier-requires
     same-length
     returns-4)

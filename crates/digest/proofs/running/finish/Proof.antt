@@ -27,22 +27,25 @@ returns-2 c = writes-nothing _ _ _ _ _
 finish-requires : tie.Need-finish-requires
 finish-requires c κs = search needs
 
-slice-aggregate-write-sequence : tie.Need-slice-aggregate-write-sequence
-slice-aggregate-write-sequence c = search needs
+slice-aggregate-place-identifier : tie.Need-slice-aggregate-place-identifier
+slice-aggregate-place-identifier c = search needs
 
-write-sequence-requires : tie.Need-write-sequence-requires
-write-sequence-requires c κs = let long : length (c .before .before .finish .result) ≡ 64 = search needs in
-    (ltb-false _ _ (sym (c .before .before .before .before .sum-exceeds .ensures) ∙ c .before .before .before .if2 .left), omega arith)
+slice-aggregate-place-identifier-2 : tie.Need-slice-aggregate-place-identifier-2
+slice-aggregate-place-identifier-2 c = search needs
+
+place-identifier-requires : tie.Need-place-identifier-requires
+place-identifier-requires c κs = let long : length (c .before .before .before .finish .result) ≡ 64 = search needs in
+    (ltb-false _ _ (sym (c .before .before .before .before .before .sum-exceeds .ensures) ∙ c .before .before .before .before .if2 .left), omega arith)
 
 same-length : tie.Need-same-length
 same-length c = search needs
 
 returns-3 : tie.Need-returns-3
-returns-3 c = let b = c .before .before .before .before .before in
+returns-3 c = let b = c .before .before .before .before .before .before in
     writes-as _ _ _ _ _ _ _ _
     (simp (le-ltb _ _ (b .before .before .before .if1 .left), sym (b .before .before .sum-exceeds .ensures) ∙ b .before .if2 .left))
     (rw (b .finish .ensures))
-    (c .before .before .write-sequence .ensures)
+    (c .before .before .place-identifier .ensures)
 
 pub finish-spec : {M : Type 1} → statement M
 finish-spec =
@@ -54,7 +57,8 @@ finish-spec =
     refuse-requires-2
     returns-2
     finish-requires
-    slice-aggregate-write-sequence
-    write-sequence-requires
+    slice-aggregate-place-identifier
+    slice-aggregate-place-identifier-2
+    place-identifier-requires
     same-length
     returns-3)

@@ -12,8 +12,8 @@ returns : tie.Need-returns
 unfolding digestTextGrounds
 returns c = rw (c .refuse .ensures) (simp (ne-eqb _ _ (c .before .if1 .taken)))
 
-first-outside-requires : tie.Need-first-outside-requires
-first-outside-requires c κs = search needs
+first-outside-base64url-requires : tie.Need-first-outside-base64url-requires
+first-outside-base64url-requires c κs = search needs
 
 refuse-requires-2 : tie.Need-refuse-requires-2
 refuse-requires-2 c κs = search needs
@@ -21,14 +21,14 @@ refuse-requires-2 c κs = search needs
 returns-2 : tie.Need-returns-2
 unfolding digestTextGrounds
 returns-2 c =
-    let e = c .before .before .first-outside .ensures in
+    let e = c .before .before .first-outside-base64url .ensures in
     rw (c .refuse2 .ensures) (simp (eq-eqb _ _ (c .before .before .before .if1 .left), ← e, lt-ltb _ _ (c .before .if2 .taken)))
 
 returns-3 : tie.Need-returns-3
 unfolding digestTextGrounds
-returns-3 c = simp (eq-eqb _ _ (c .before .before .if1 .left), ← c .before .first-outside .ensures, le-ltb _ _ (c .if2 .left))
+returns-3 c = simp (eq-eqb _ _ (c .before .before .if1 .left), ← c .before .first-outside-base64url .ensures, le-ltb _ _ (c .if2 .left))
 
 pub check-digest-text-spec : {M : Type 1} → statement M
 check-digest-text-spec =
     tie.close
-    (tie.spec refuse-requires returns first-outside-requires refuse-requires-2 returns-2 returns-3)
+    (tie.spec refuse-requires returns first-outside-base64url-requires refuse-requires-2 returns-2 returns-3)

@@ -28,17 +28,17 @@ returns c = puts-none _ _ _ _ (omega arith) (c .refuse .ensures) (simp length-ap
 copy-requires : tie.Need-copy-requires
 copy-requires c κs = search needs
 
-sub-copy-three : tie.Need-sub-copy-three
-sub-copy-three c = search needs
+sub-put-three : tie.Need-sub-put-three
+sub-put-three c = search needs
 
-part-copy-three-start : tie.Need-part-copy-three-start
-part-copy-three-start c = search needs
+part-put-three-start : tie.Need-part-put-three-start
+part-put-three-start c = search needs
 
-part-copy-three-end : tie.Need-part-copy-three-end
-part-copy-three-end c = search needs
+part-put-three-end : tie.Need-part-put-three-end
+part-put-three-end c = search needs
 
-copy-three-requires : tie.Need-copy-three-requires
-copy-three-requires c κs = search needs
+put-three-requires : tie.Need-put-three-requires
+put-three-requires c κs = search needs
 
 slice-write-out : tie.Need-slice-write-out
 slice-write-out c = search needs
@@ -53,7 +53,7 @@ returns-2 : tie.Need-returns-2
 returns-2 c = let s = c .before .before .before .before .before .before .before .before .before .before .before .before .before .before in
     let t = s .args .a .now ++ (s .args .b .now ++ s .args .c .now) in
     puts-whole _ _ _ _ (simp length-append (omega arith)) (simp length-append (omega arith))
-    (rw (c .before .before .copy-three .ensures, c .before .before .before .before .before .before .copy .ensures) (front-then (s .args .out .now) (s .args .front .now) t 10 _ (simp length-append (omega arith)) (omega arith)))
+    (rw (c .before .before .put-three .ensures .laid, c .before .before .before .before .before .before .copy .ensures) (front-then (s .args .out .now) (s .args .front .now) t 10 _ (simp length-append (omega arith)) (omega arith)))
 
 pub put-line-spec : {M : Type 1} → statement M
 put-line-spec =
@@ -66,10 +66,10 @@ put-line-spec =
     refuse-requires
     returns
     copy-requires
-    sub-copy-three
-    part-copy-three-start
-    part-copy-three-end
-    copy-three-requires
+    sub-put-three
+    part-put-three-start
+    part-put-three-end
+    put-three-requires
     slice-write-out
     add-t25
     same-length

@@ -1,4 +1,5 @@
 -- The joined text is laid over the output's tail, where there is room.
+use native.Mathlib.Nat.{zero-add}
 use mathlib.Core.Path.{refl, _∙_, sym}
 use borrow.Author.Needs.{needs}
 use Rattle.stretch.proofs.Over.{over-tail-front}
@@ -35,47 +36,47 @@ returns c =
     let s = b .before .before .before .before in
     rw (c .refuse .ensures) (lays-nothing _ _ _ _ (s .args .w) (s .pre) _ refl _ _ (sym (b .sum-exceeds .ensures) ∙ c .before .if1 .taken))
 
-sub-copy-three : tie.Need-sub-copy-three
-sub-copy-three c = place-within _ _ _ (sym (c .before .sum-exceeds .ensures) ∙ c .if1 .left)
+sub-put-three : tie.Need-sub-put-three
+sub-put-three c = place-within _ _ _ (sym (c .before .sum-exceeds .ensures) ∙ c .if1 .left)
 
-part-copy-three-start : tie.Need-part-copy-three-start
-part-copy-three-start c = place-within _ _ _ (sym (c .before .sum-exceeds .ensures) ∙ c .if1 .left)
+part-put-three-start : tie.Need-part-put-three-start
+part-put-three-start c = place-within _ _ _ (sym (c .before .sum-exceeds .ensures) ∙ c .if1 .left)
 
-part-copy-three-end : tie.Need-part-copy-three-end
-part-copy-three-end c = search needs
+part-put-three-end : tie.Need-part-put-three-end
+part-put-three-end c = search needs
 
-sub-copy-three-2 : tie.Need-sub-copy-three-2
-sub-copy-three-2 c = search needs
+sub-put-three-2 : tie.Need-sub-put-three-2
+sub-put-three-2 c = search needs
 
-part-copy-three-start-2 : tie.Need-part-copy-three-start-2
-part-copy-three-start-2 c = search needs
+part-put-three-start-2 : tie.Need-part-put-three-start-2
+part-put-three-start-2 c = search needs
 
-part-copy-three-end-2 : tie.Need-part-copy-three-end-2
-part-copy-three-end-2 c = search needs
+part-put-three-end-2 : tie.Need-part-put-three-end-2
+part-put-three-end-2 c = search needs
 
-sub-copy-three-3 : tie.Need-sub-copy-three-3
-sub-copy-three-3 c = search needs
+sub-put-three-3 : tie.Need-sub-put-three-3
+sub-put-three-3 c = search needs
 
-part-copy-three-start-3 : tie.Need-part-copy-three-start-3
-part-copy-three-start-3 c = search needs
+part-put-three-start-3 : tie.Need-part-put-three-start-3
+part-put-three-start-3 c = search needs
 
-part-copy-three-end-3 : tie.Need-part-copy-three-end-3
-part-copy-three-end-3 c = search needs
+part-put-three-end-3 : tie.Need-part-put-three-end-3
+part-put-three-end-3 c = search needs
 
-sub-copy-three-4 : tie.Need-sub-copy-three-4
-sub-copy-three-4 c = search needs
+sub-put-three-4 : tie.Need-sub-put-three-4
+sub-put-three-4 c = search needs
 
-part-copy-three-start-4 : tie.Need-part-copy-three-start-4
-part-copy-three-start-4 c = search needs
+part-put-three-start-4 : tie.Need-part-put-three-start-4
+part-put-three-start-4 c = search needs
 
-part-copy-three-end-4 : tie.Need-part-copy-three-end-4
-part-copy-three-end-4 c = search needs
+part-put-three-end-4 : tie.Need-part-put-three-end-4
+part-put-three-end-4 c = search needs
 
-copy-three-requires : tie.Need-copy-three-requires
-copy-three-requires c κs =
+put-three-requires : tie.Need-put-three-requires
+put-three-requires c κs =
     let b = c .before .before .before .before in
     let s = b .before .before .before .before .before in
-    room-for _ _ _ _ (s .args .w) (s .pre) _ refl (s .args .out .now) (s .args .place) (sym (b .before .sum-exceeds .ensures) ∙ b .if1 .left)
+    rw zero-add (room-for _ _ _ _ (s .args .w) (s .pre) _ refl (s .args .out .now) (s .args .place) (sym (b .before .sum-exceeds .ensures) ∙ b .if1 .left))
 
 same-length : tie.Need-same-length
 same-length c = search needs
@@ -88,7 +89,7 @@ returns-2 c =
     let s = b .before .before .before .before .before in
     let t = sym (b .before .sum-exceeds .ensures) ∙ b .if1 .left in
     lays-all _ _ _ _ (s .args .w) (s .pre) _ refl _ _ _ t
-    (rw (k .copy-three .ensures) (over-tail-front (s .args .out .now) (s .args .place) _ (room-left _ _ _ _ (s .args .w) (s .pre) _ refl (s .args .out .now) (s .args .place) t)))
+    (rw (k .put-three .ensures .laid) (over-tail-front (s .args .out .now) (s .args .place) _ (room-left _ _ _ _ (s .args .w) (s .pre) _ refl (s .args .out .now) (s .args .place) t)))
 
 pub write-spec : {M : Type 1} → statement M
 write-spec =
@@ -102,18 +103,18 @@ write-spec =
     sum-exceeds-requires
     refuse-requires
     returns
-    sub-copy-three
-    part-copy-three-start
-    part-copy-three-end
-    sub-copy-three-2
-    part-copy-three-start-2
-    part-copy-three-end-2
-    sub-copy-three-3
-    part-copy-three-start-3
-    part-copy-three-end-3
-    sub-copy-three-4
-    part-copy-three-start-4
-    part-copy-three-end-4
-    copy-three-requires
+    sub-put-three
+    part-put-three-start
+    part-put-three-end
+    sub-put-three-2
+    part-put-three-start-2
+    part-put-three-end-2
+    sub-put-three-3
+    part-put-three-start-3
+    part-put-three-end-3
+    sub-put-three-4
+    part-put-three-start-4
+    part-put-three-end-4
+    put-three-requires
     same-length
     returns-2)

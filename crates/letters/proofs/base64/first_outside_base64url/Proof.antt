@@ -7,8 +7,8 @@ use borrow.Author.Needs.{needs}
 use borrow.Author.Tests.{not-true, not-false}
 use Rattle.letters.specs.Letters.{base64url, firstOutside}
 use Rattle.letters.proofs.Outside.{firstOutside-on, firstOutside-here, firstOutside-end}
-use Rattle.letters.proofs.base64.first_outside.Statement.{statement}
-use Rattle.letters.proofs.base64.first_outside.Tie as tie
+use Rattle.letters.proofs.base64.first_outside_base64url.Statement.{statement}
+use Rattle.letters.proofs.base64.first_outside_base64url.Tie as tie
 
 abbrev Inv-loop : tie.InvT-loop
 Inv-loop s i₀ i = (i ≤ length s) × (firstOutside base64url s ≡ i + firstOutside base64url (drop i s))
@@ -48,8 +48,8 @@ returns-2 c =
     let l = c .before .loop in
     sym (firstOutside-end base64url _ (l .i) (omega arith) (l .inv .1))
 
-pub first-outside-spec : {M : Type 1} → statement M
-first-outside-spec =
+pub first-outside-base64url-spec : {M : Type 1} → statement M
+first-outside-base64url-spec =
     tie.close
     (tie.spec
     Inv-loop

@@ -1,0 +1,19 @@
+-- Document 01, "Texts and identifiers": the identifier of a location, and the text and the identifier of an allele in its normal form.
+use Prim.Native.Nat.{ℕ}
+use mathlib.Core.List.{List, _++_}
+use Rattle.stretch.specs.Ascii.{ascii}
+use Rattle.normal.specs.Form.{Normal}
+use Rattle.text.specs.Layout.{locationText, alleleText}
+use Rattle.digest.specs.Identifier.{sha512t24u}
+
+-- 42 bytes, over the location text
+unfoldable pub locationIdentifier : ℕ → ℕ → List ℕ → List ℕ
+locationIdentifier start end digest = ascii "ga4gh:VSL." ++ sha512t24u (locationText start end digest)
+
+-- the text of a normal form, on a sequence of that digest: its location's digest, and its replacement
+unfoldable pub textOf : Normal → List ℕ → List ℕ
+textOf form digest = alleleText (sha512t24u (locationText (form .start) (form .end) digest)) (form .replacement)
+
+-- 41 bytes, over the allele text
+unfoldable pub identifierOf : Normal → List ℕ → List ℕ
+identifierOf form digest = ascii "ga4gh:VA." ++ sha512t24u (textOf form digest)

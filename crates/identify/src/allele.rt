@@ -1,0 +1,188 @@
+// The text and the identifier of an allele, in its normal form.
+use super::hash::allele_hash;
+use super::hash::location_digest;
+use digest::place_identifier;
+use letters::check_digest_text;
+use normal::Located;
+use normal::Stretches;
+use normal::clean;
+use normal::locate;
+use refusal::OUTPUT_TOO_SHORT;
+use refusal::Outcome;
+use refusal::Written;
+use refusal::refuse;
+use refusal::sum_exceeds;
+use text::write_allele;
+ghost use mathlib.Core.Path.{_≡_};
+ghost use mathlib.Core.List.{[]};
+ghost use lib.ListN.{length};
+ghost use Rattle.normal.specs.Stretches.{Fits, formIn};
+ghost use Rattle.identify.specs.Identifiers.{textOf, identifierOf};
+ghost use Rattle.identify.specs.Calls.{alleleAnswer, restAnswer, Says, SaysAllele, IdentifiesAllele};
+
+const ALLELE_PREFIX: [u8; 9] = *b"ga4gh:VA.";
+
+// The prefix and 32 characters.
+const IDENTIFIER_LENGTH: u64 = 41;
+
+// 7, then 5.
+fn check_rest(
+    reference: &[u8],
+    start: usize,
+    end: usize,
+    replacement: &[u8],
+    digest: &[u8],
+    w: Stretches,
+) -> Located
+    requires { ⌜ Fits (now reference) start end (now replacement) w ⌝ }
+    ensures { λ r. ⌜ r ≡ restAnswer (now (reference .entry)) start end (now (replacement .entry)) (now (digest .entry)) w ⌝ }
+{
+    match check_digest_text(digest) {
+        Outcome::Accepted => clean(reference, start, end, replacement, w),
+        Outcome::Refused(why) => Located::Refused(why),
+    }
+}
+
+// 1, 2, 3, 4, 7, 5.
+fn check_allele(
+    reference: &[u8],
+    start: u64,
+    end: u64,
+    replacement: &[u8],
+    digest: &[u8],
+) -> Located
+    ensures { λ r. ⌜ r ≡ alleleAnswer (now (reference .entry)) start end (now (replacement .entry)) (now (digest .entry)) ⌝ }
+{
+    match locate(reference, start, end, replacement) {
+        Located::Accepted(w) => check_rest(
+            reference,
+            start as usize,
+            end as usize,
+            replacement,
+            digest,
+            w,
+        ),
+        Located::Refused(why) => Located::Refused(why),
+    }
+}
+
+// 6, and the text of the form that the stretches hold.
+fn write_text(
+    reference: &[u8],
+    start: usize,
+    end: usize,
+    replacement: &[u8],
+    digest: &[u8],
+    w: Stretches,
+    out: &mut [u8],
+    place: u64,
+) -> Written
+    requires { ⌜ Fits (now reference) start end (now replacement) w ⌝ }
+    requires { ⌜ length (now digest) ≡ 32 ⌝ }
+    ensures { λ r. ⌜ Says [] (textOf (formIn (now (reference .entry)) start end (now (replacement .entry)) w) (now (digest .entry))) (now (out .entry)) place r (now (out .exit)) ⌝ }
+{
+    let left = w.left;
+    let from = w.from;
+    let to = w.to;
+    let right = w.right;
+    let length = (start - left + (to - from) + (right - end) + 110) as u64;
+    if sum_exceeds(place, length, out.len() as u64) {
+        return Written::Refused(refuse(OUTPUT_TOO_SHORT, length));
+    }
+    let location = location_digest(w.start as u64, w.end as u64, digest);
+    let at = place as usize;
+    write_allele(
+        &mut out[at..],
+        &location,
+        &reference[left..start],
+        &replacement[from..to],
+        &reference[end..right],
+    );
+    Written::Bytes(length)
+}
+
+// 6, and the identifier of the form that the stretches hold.
+fn write_identifier(
+    reference: &[u8],
+    start: usize,
+    end: usize,
+    replacement: &[u8],
+    digest: &[u8],
+    w: Stretches,
+    out: &mut [u8],
+    place: u64,
+) -> Written
+    requires { ⌜ Fits (now reference) start end (now replacement) w ⌝ }
+    requires { ⌜ length (now digest) ≡ 32 ⌝ }
+    ensures { λ r. ⌜ Says [] (identifierOf (formIn (now (reference .entry)) start end (now (replacement .entry)) w) (now (digest .entry))) (now (out .entry)) place r (now (out .exit)) ⌝ }
+{
+    if sum_exceeds(place, IDENTIFIER_LENGTH, out.len() as u64) {
+        return Written::Refused(refuse(OUTPUT_TOO_SHORT, IDENTIFIER_LENGTH));
+    }
+    let left = w.left;
+    let from = w.from;
+    let to = w.to;
+    let right = w.right;
+    let location = location_digest(w.start as u64, w.end as u64, digest);
+    let hash = allele_hash(
+        &location,
+        &reference[left..start],
+        &replacement[from..to],
+        &reference[end..right],
+    );
+    place_identifier(out, place, &ALLELE_PREFIX, &hash)
+}
+
+// Writes the text of the allele's normal form into `out` from `place` on.
+pub fn allele_text(
+    reference: &[u8],
+    start: u64,
+    end: u64,
+    replacement: &[u8],
+    digest: &[u8],
+    out: &mut [u8],
+    place: u64,
+) -> Written
+    ensures { λ r. ⌜ SaysAllele (now (reference .entry)) start end (now (replacement .entry)) (now (digest .entry)) (now (out .entry)) place r (now (out .exit)) ⌝ }
+{
+    match check_allele(reference, start, end, replacement, digest) {
+        Located::Accepted(w) => write_text(
+            reference,
+            start as usize,
+            end as usize,
+            replacement,
+            digest,
+            w,
+            out,
+            place,
+        ),
+        Located::Refused(why) => Written::Refused(why),
+    }
+}
+
+// Writes the identifier of the allele's normal form into `out` from `place` on.
+pub fn allele_identifier(
+    reference: &[u8],
+    start: u64,
+    end: u64,
+    replacement: &[u8],
+    digest: &[u8],
+    out: &mut [u8],
+    place: u64,
+) -> Written
+    ensures { λ r. ⌜ IdentifiesAllele (now (reference .entry)) start end (now (replacement .entry)) (now (digest .entry)) (now (out .entry)) place r (now (out .exit)) ⌝ }
+{
+    match check_allele(reference, start, end, replacement, digest) {
+        Located::Accepted(w) => write_identifier(
+            reference,
+            start as usize,
+            end as usize,
+            replacement,
+            digest,
+            w,
+            out,
+            place,
+        ),
+        Located::Refused(why) => Written::Refused(why),
+    }
+}

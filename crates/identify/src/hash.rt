@@ -1,0 +1,50 @@
+// The digests of the two texts. An allele text is hashed as its parts lie, without being built.
+use digest::write_digest_text;
+use text::BEFORE_LOCATION;
+use text::BEFORE_SEQUENCE;
+use text::BEHIND_SEQUENCE;
+use text::write_location;
+ghost use mathlib.Core.Path.{_≡_};
+ghost use mathlib.Core.List.{_++_};
+ghost use Prim.Native.Nat.{_+_, _^_, _<_};
+ghost use lib.ListN.{length};
+ghost use Rattle.sha512.specs.Message.{sha512};
+ghost use Rattle.digest.specs.Identifier.{sha512t24u};
+ghost use Rattle.text.specs.Layout.{locationText, alleleText};
+
+// Room for a location text with two numbers of 20 digits.
+const LONGEST_LOCATION: usize = 169;
+
+pub fn location_hash(start: u64, end: u64, digest: &[u8]) -> [u8; 64]
+    requires { ⌜ length (now digest) ≡ 32 ⌝ }
+    ensures { λ r. ⌜ r ≡ sha512 (locationText start end (now (digest .entry))) ⌝ }
+{
+    let mut text = [0; LONGEST_LOCATION];
+    let n = write_location(&mut text, start, end, digest);
+    sha512::of_message(&text[0..n])
+}
+
+// The 32 characters that stand for a location in an allele text.
+pub fn location_digest(start: u64, end: u64, digest: &[u8]) -> [u8; 32]
+    requires { ⌜ length (now digest) ≡ 32 ⌝ }
+    ensures { λ r. ⌜ r ≡ sha512t24u (locationText start end (now (digest .entry))) ⌝ }
+{
+    let hash = location_hash(start, end, digest);
+    let mut text = [0; 32];
+    write_digest_text(&mut text, &hash);
+    text
+}
+
+// The replacement comes in three stretches.
+pub fn allele_hash(location: &[u8], a: &[u8], b: &[u8], c: &[u8]) -> [u8; 64]
+    requires { ⌜ length (now location) + (length (now a) + (length (now b) + (length (now c) + 78))) < 2 ^ 64 ⌝ }
+    ensures { λ r. ⌜ r ≡ sha512 (alleleText (now (location .entry)) (now (a .entry) ++ (now (b .entry) ++ now (c .entry)))) ⌝ }
+{
+    let head = sha512::feed(sha512::begin(), &BEFORE_LOCATION);
+    let located = sha512::feed(head, location);
+    let first = sha512::feed(located, &BEFORE_SEQUENCE);
+    let second = sha512::feed(first, a);
+    let third = sha512::feed(second, b);
+    let last = sha512::feed(third, c);
+    sha512::finish(sha512::feed(last, &BEHIND_SEQUENCE))
+}

@@ -1,0 +1,164 @@
+-- What reading promises: a text has one answer, what is written is read back, and what is read is what the text says.
+use Prim.Native.Nat.{ℕ, _+_, _≤_}
+use native.Mathlib.Omega.{arith}
+use mathlib.Core.Path.{_≡_, refl, _∙_, sym, ap}
+use mathlib.Core.List.{List, [], _++_, append-assoc}
+use lib.ListN.{length, length-append}
+use Rattle.stretch.specs.Part.{part}
+use Rattle.refusal.specs.Limits.{referenceLimit, sequenceLimit}
+use Rattle.refusal.specs.declared.Refusal.{Refusal}
+use Rattle.text.specs.Decimal.{decimal}
+use Rattle.text.specs.Layout.{beforeEnd, beforeStart, beforeDigest, behindDigest, locationText, beforeLocation, beforeSequence, behindSequence, alleleText}
+use Rattle.reading.specs.declared.AlleleParts.{AlleleParts}
+use Rattle.reading.specs.declared.AlleleRead.{AlleleRead}
+use Rattle.reading.specs.declared.AlleleRead.the-variants.{Accepted as AlleleAccepted, Refused as AlleleRefused}
+use Rattle.reading.specs.declared.LocationParts.{LocationParts}
+use Rattle.reading.specs.declared.LocationRead.{LocationRead}
+use Rattle.reading.specs.declared.LocationRead.the-variants.{Accepted, Refused}
+use Rattle.reading.specs.Accepted.{Digest, Letters, LocationText, AlleleText, ReadsLocation, accepts, refuses, ReadsAllele, accepts-allele, refuses-allele, HandsBack, hands, nothing}
+use Rattle.reading.proofs.Following.{longest-once}
+use Rattle.reading.proofs.Lies.{Lies, lies-between}
+use Rattle.reading.proofs.LocationTexts.{location-start, location-end, location-digest}
+use Rattle.reading.proofs.AlleleTexts.{allele-location, allele-sequence}
+
+-- one answer
+pub reads-location-once : (text : List ℕ) (a₁ a₂ : LocationRead) → ReadsLocation text a₁ → ReadsLocation text a₂ → a₁ ≡ a₂
+reads-location-once text _ _ (accepts a) (accepts b) =
+    λ i. Accepted (record {
+      start = location-start text a b i;
+      end = location-end text a b i;
+      digest = length beforeEnd + length (decimal (location-end text a b i)) + length beforeStart + length (decimal (location-start text a b i)) + length beforeDigest;
+    })
+reads-location-once text _ _ (accepts a) (refuses j r) = absurd (r .other a)
+reads-location-once text _ _ (refuses i r) (accepts b) = absurd (r .other b)
+reads-location-once text _ _ (refuses i r) (refuses j q) =
+    ap (λ (k : ℕ). Refused (record { number = 8; value = k })) (longest-once LocationText text i j (r .longest) (q .longest))
+
+pub reads-allele-once : (text : List ℕ) (a₁ a₂ : AlleleRead) → ReadsAllele text a₁ → ReadsAllele text a₂ → a₁ ≡ a₂
+reads-allele-once text _ _ (accepts-allele a) (accepts-allele b) =
+    ap
+    (λ (s : List ℕ). AlleleAccepted (record {
+      location = length beforeLocation;
+      sequence = length beforeLocation + 32 + length beforeSequence;
+      length = length s;
+    }))
+    (allele-sequence text a b)
+reads-allele-once text _ _ (accepts-allele a) (refuses-allele j r) = absurd (r .other a)
+reads-allele-once text _ _ (refuses-allele i r) (accepts-allele b) = absurd (r .other b)
+reads-allele-once text _ _ (refuses-allele i r) (refuses-allele j q) =
+    ap (λ (k : ℕ). AlleleRefused (record { number = 8; value = k })) (longest-once AlleleText text i j (r .longest) (q .longest))
+
+pub hands-once : (Kind : List ℕ → Type 0) (stretch : (text : List ℕ) → Kind text → List ℕ) → ((text : List ℕ) (a b : Kind text) → stretch text a ≡ stretch text b)
+    → (text s₁ s₂ : List ℕ) → HandsBack Kind stretch text s₁ → HandsBack Kind stretch text s₂ → s₁ ≡ s₂
+hands-once Kind stretch one text _ _ (hands a) (hands b) = one text a b
+hands-once Kind stretch one text _ _ (hands a) (nothing f) = absurd (f a)
+hands-once Kind stretch one text _ _ (nothing f) (hands b) = absurd (f b)
+hands-once Kind stretch one text _ _ (nothing f) (nothing g) = refl
+
+pub digest-of-once : (text s₁ s₂ : List ℕ) → HandsBack LocationText (λ t a. a .digest) text s₁ → HandsBack LocationText (λ t a. a .digest) text s₂ → s₁ ≡ s₂
+digest-of-once = hands-once LocationText (λ t a. a .digest) location-digest
+
+pub location-of-once : (text s₁ s₂ : List ℕ) → HandsBack AlleleText (λ t a. a .location) text s₁ → HandsBack AlleleText (λ t a. a .location) text s₂ → s₁ ≡ s₂
+location-of-once = hands-once AlleleText (λ t a. a .location) allele-location
+
+pub sequence-of-once : (text s₁ s₂ : List ℕ) → HandsBack AlleleText (λ t a. a .sequence) text s₁ → HandsBack AlleleText (λ t a. a .sequence) text s₂ → s₁ ≡ s₂
+sequence-of-once = hands-once AlleleText (λ t a. a .sequence) allele-sequence
+
+-- what is written is read back
+module _ (start end : ℕ) (digest : List ℕ) (ordered : start ≤ end) (inside : end ≤ referenceLimit) (d : Digest digest) where
+  written : LocationText (locationText start end digest)
+  written = record { start = start; end = end; digest = digest; ordered = ordered; inside = inside; digests = d; laid = refl }
+
+  pub reads-location-back : (answer : LocationRead) → ReadsLocation (locationText start end digest) answer
+      → answer ≡ Accepted (record {
+        start = start;
+        end = end;
+        digest = length beforeEnd + length (decimal end) + length beforeStart + length (decimal start) + length beforeDigest;
+      })
+  unfolding written
+  reads-location-back answer r = reads-location-once (locationText start end digest) answer _ r (accepts written)
+
+  pub digest-of-back : (s : List ℕ) → HandsBack LocationText (λ t a. a .digest) (locationText start end digest) s → s ≡ digest
+  unfolding written
+  digest-of-back s h = digest-of-once (locationText start end digest) s digest h (hands written)
+
+module _ (location sequence : List ℕ) (d : Digest location) (l : Letters sequenceLimit sequence) where
+  written-allele : AlleleText (alleleText location sequence)
+  written-allele = record { location = location; sequence = sequence; digests = d; letters = l; laid = refl }
+
+  pub reads-allele-back : (answer : AlleleRead) → ReadsAllele (alleleText location sequence) answer
+      → answer ≡ AlleleAccepted (record {
+        location = length beforeLocation;
+        sequence = length beforeLocation + 32 + length beforeSequence;
+        length = length sequence;
+      })
+  unfolding written-allele
+  reads-allele-back answer r = reads-allele-once (alleleText location sequence) answer _ r (accepts-allele written-allele)
+
+  pub location-of-back : (s : List ℕ) → HandsBack AlleleText (λ t a. a .location) (alleleText location sequence) s → s ≡ location
+  unfolding written-allele
+  location-of-back s h = location-of-once (alleleText location sequence) s location h (hands written-allele)
+
+  pub sequence-of-back : (s : List ℕ) → HandsBack AlleleText (λ t a. a .sequence) (alleleText location sequence) s → s ≡ sequence
+  unfolding written-allele
+  sequence-of-back s h = sequence-of-once (alleleText location sequence) s sequence h (hands written-allele)
+
+-- what is read is what the text says
+pub record LocationSays (text : List ℕ) (p : LocationParts) : Type 0 where
+  pub is : LocationText text
+  pub start : p .start ≡ is .start
+  pub end : p .end ≡ is .end
+  pub digest : Lies text (p .digest) 32 (is .digest)
+
+pub record AlleleSays (text : List ℕ) (p : AlleleParts) : Type 0 where
+  pub is : AlleleText text
+  pub location : Lies text (p .location) 32 (is .location)
+  pub sequence : Lies text (p .sequence) (p .length) (is .sequence)
+
+regroup : (b c d e f x : List ℕ) → b ++ (c ++ (d ++ (e ++ f))) ++ x ≡ b ++ (c ++ (d ++ (e ++ (f ++ x))))
+regroup b c d e f x = simp append-assoc
+
+pub reads-location-says : (text : List ℕ) (p : LocationParts) → ReadsLocation text (Accepted p) → LocationSays text p
+unfolding locationText
+reads-location-says text p (accepts a) =
+    let front = beforeEnd ++ (decimal (a .end) ++ (beforeStart ++ (decimal (a .start) ++ beforeDigest))) in
+    let whole : text ≡ front ++ (a .digest ++ behindDigest)
+    = a .laid ∙ sym (regroup beforeEnd (decimal (a .end)) beforeStart (decimal (a .start)) beforeDigest (a .digest ++ behindDigest)) in
+    record {
+      is = a;
+      start = refl;
+      end = refl;
+      digest = lies-between text front (a .digest) behindDigest _ 32 whole (simp length-append (omega arith)) (a .digests .long);
+    }
+
+pub reads-allele-says : (text : List ℕ) (p : AlleleParts) → ReadsAllele text (AlleleAccepted p) → AlleleSays text p
+unfolding alleleText
+reads-allele-says text p (accepts-allele a) =
+    let front = beforeLocation ++ (a .location ++ beforeSequence) in
+    let whole : text ≡ front ++ (a .sequence ++ behindSequence)
+    = a .laid ∙ ap (λ (l : List ℕ). beforeLocation ++ l) (sym (append-assoc (a .location) beforeSequence (a .sequence ++ behindSequence))) in
+    record {
+      is = a;
+      location = lies-between text beforeLocation (a .location) (beforeSequence ++ (a .sequence ++ behindSequence)) _ 32 (a .laid) refl (a .digests .long);
+      sequence = lies-between text front (a .sequence) behindSequence _ _ whole (simp length-append (omega (arith, a .digests .long))) refl;
+    }
+
+-- and so are the stretches that are handed back
+module _ (text : List ℕ) where
+  pub digest-of-accepted : (p : LocationParts) → ReadsLocation text (Accepted p) → HandsBack LocationText (λ t a. a .digest) text (part text (p .digest) (p .digest + 32))
+  digest-of-accepted p r = let s = reads-location-says text p r in rw (s .digest .stretch) (hands (s .is))
+
+  pub digest-of-refused : (r : Refusal) → ReadsLocation text (Refused r) → HandsBack LocationText (λ t a. a .digest) text []
+  digest-of-refused _ (refuses i r) = nothing (r .other)
+
+  pub location-of-accepted : (p : AlleleParts) → ReadsAllele text (AlleleAccepted p) → HandsBack AlleleText (λ t a. a .location) text (part text (p .location) (p .location + 32))
+  location-of-accepted p r = let s = reads-allele-says text p r in rw (s .location .stretch) (hands (s .is))
+
+  pub location-of-refused : (r : Refusal) → ReadsAllele text (AlleleRefused r) → HandsBack AlleleText (λ t a. a .location) text []
+  location-of-refused _ (refuses-allele i r) = nothing (r .other)
+
+  pub sequence-of-accepted : (p : AlleleParts) → ReadsAllele text (AlleleAccepted p) → HandsBack AlleleText (λ t a. a .sequence) text (part text (p .sequence) (p .sequence + p .length))
+  sequence-of-accepted p r = let s = reads-allele-says text p r in rw (s .sequence .stretch) (hands (s .is))
+
+  pub sequence-of-refused : (r : Refusal) → ReadsAllele text (AlleleRefused r) → HandsBack AlleleText (λ t a. a .sequence) text []
+  sequence-of-refused _ (refuses-allele i r) = nothing (r .other)

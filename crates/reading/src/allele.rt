@@ -1,0 +1,61 @@
+// Allele texts.
+use super::AlleleParts;
+use super::AlleleRead;
+use super::Walk;
+use super::words::past_digest;
+use super::words::past_letters;
+use super::words::past_word;
+use refusal::SEQUENCE_LIMIT;
+use refusal::TEXT_NOT_ACCEPTED;
+use refusal::refuse;
+use text::BEFORE_LOCATION;
+use text::BEFORE_SEQUENCE;
+use text::BEHIND_SEQUENCE;
+ghost use Rattle.reading.specs.Accepted.{AlleleText, ReadsAllele, HandsBack};
+
+// Where the parts of an allele text lie.
+pub fn read_allele(text: &[u8]) -> AlleleRead
+    ensures { λ r. ⌜ ReadsAllele (now (text .entry)) r ⌝ }
+{
+    let begun = Walk { at: 0, on: true };
+    let location = past_word(text, begun, &BEFORE_LOCATION);
+    let middle = past_digest(text, location);
+    let sequence = past_word(text, middle, &BEFORE_SEQUENCE);
+    let behind = past_letters(text, sequence, SEQUENCE_LIMIT as usize);
+    let close = past_word(text, behind, &BEHIND_SEQUENCE);
+    if close.on && close.at == text.len() {
+        return AlleleRead::Accepted(AlleleParts {
+            location: location.at as u64,
+            sequence: sequence.at as u64,
+            length: (behind.at - sequence.at) as u64,
+        });
+    }
+    AlleleRead::Refused(refuse(TEXT_NOT_ACCEPTED, close.at as u64))
+}
+
+// The location's digest in an allele text, as it lies there. Of a text that is refused, nothing.
+pub fn location_of(text: &[u8]) -> &[u8]
+    ensures { λ r. ⌜ HandsBack AlleleText (λ t a. a .location) (now (text .entry)) (now r) ⌝ }
+{
+    match read_allele(text) {
+        AlleleRead::Accepted(parts) => {
+            let from = parts.location as usize;
+            &text[from..from + 32]
+        }
+        AlleleRead::Refused(_) => &text[0..0],
+    }
+}
+
+// The sequence in an allele text, as it lies there. Of a text that is refused, nothing.
+pub fn sequence_of(text: &[u8]) -> &[u8]
+    ensures { λ r. ⌜ HandsBack AlleleText (λ t a. a .sequence) (now (text .entry)) (now r) ⌝ }
+{
+    match read_allele(text) {
+        AlleleRead::Accepted(parts) => {
+            let from = parts.sequence as usize;
+            let to = from + parts.length as usize;
+            &text[from..to]
+        }
+        AlleleRead::Refused(_) => &text[0..0],
+    }
+}
