@@ -3,7 +3,8 @@
  * time is the processor's, so that other programs disturb it less. A ratio is a row's time divided by
  * that of the first row of its table: 1.00 is as fast, more is slower.
  *
- * An argument is the bytes a second of OpenSSL's SHA-512, as bench/run has measured it.
+ * The two arguments are what bench/run has measured, 0 for what it has not: the bytes a second of
+ * OpenSSL's SHA-512, and the allele identifiers a second of the second program.
  */
 #include "fearnavult.h"
 #include "plain.h"
@@ -23,6 +24,7 @@ enum { CLOCK_PROCESS_CPUTIME_ID = 2, TURNS = 5 };
 enum { MEGABYTES = 64, BYTES = MEGABYTES << 20 };
 enum { SHORT = 10 * 1000, LONG = 10 * 1000 * 1000, FORMS = 100 * 1000 };
 enum { LONGEST_ROLL = 100 * 1000, ROLLED = 20 * 1000 * 1000 };
+enum { ROUNDS = 10 * 1000, IDENTIFIERS = 3 * ROUNDS };
 
 typedef struct {
     const char *name;
@@ -31,9 +33,10 @@ typedef struct {
 } row;
 
 static uint8_t twice[2 * BYTES]; /* the same random residues two times */
-static uint8_t short_reference[SHORT], long_reference[LONG], same[LONGEST_ROLL + 1];
+static uint8_t short_reference[SHORT], long_reference[LONG], same[LONG];
 static uint8_t out[LONGEST_ROLL], digest[64];
 static const uint8_t nothing[1];
+static const uint8_t repeat[] = "TCAGCAGCAGT", repeat_digest[] = "zR7HujP8jYfpROv-hBLZMHuR_5P4Zo0q";
 static size_t found;
 
 static double now(void) {
@@ -98,6 +101,30 @@ static void rolls_of_1000(void) { rolls(1000); }
 static void rolls_of_10000(void) { rolls(10000); }
 static void rolls_of_100000(void) { rolls(100000); }
 
+/* An insertion, a substitution and an allele that changes nothing, as in bench/second.py. */
+static void repeat_identifier(uint64_t start, uint64_t end, const char *replacement, size_t length) {
+    hold(fv_allele_identifier(repeat, 11, start, end, (const uint8_t *)replacement, length,
+                              repeat_digest, 32, out, 41, 0).length == 41);
+}
+static void allele_identifiers(void) {
+    for (int i = 0; i < ROUNDS; i++) {
+        repeat_identifier(4, 4, "CAG", 3);
+        repeat_identifier(2, 3, "T", 1);
+        repeat_identifier(1, 4, "CAG", 3);
+    }
+}
+
+/* One residue comes into the middle of 10 million equal ones, and all of them into the replacement. */
+static void long_allele_identifier(void) {
+    const uint8_t one[] = {'A'};
+    hold(fv_allele_identifier(same, LONG, LONG / 2, LONG / 2, one, 1, repeat_digest, 32, out, 41, 0).length == 41);
+}
+static void plain_long_digest(void) { plain_sha512(same, LONG, digest); }
+static void plain_long_roll(void) {
+    found = plain_common_suffix(same, same + 1, LONG / 2) + plain_common_prefix(same, same + 1, LONG / 2);
+}
+static void plain_long_test(void) { hold(plain_letters(same, LONG) == LONG); }
+
 static void show(const char *name, double took, double first) {
     printf("%-46s %9.1f ms %8.2f\n", name, took / 1e6, took / first);
 }
@@ -124,6 +151,7 @@ static void fill(uint8_t *text, size_t length) {
 }
 
 int main(int count, char **words) {
+    double openssl = count > 1 ? atof(words[1]) : 0, second = count > 2 ? atof(words[2]) : 0;
     fill(twice, BYTES);
     memcpy(twice + BYTES, twice, BYTES);
     fill(short_reference, SHORT);
@@ -139,7 +167,7 @@ int main(int count, char **words) {
     TABLE("identifier of 64 MB", identifiers);
     double ours = identifiers[0].best;
     show("plain C SHA-512 and letter test", identifiers[1].best + identifiers[2].best, ours);
-    if (count > 1) show("OpenSSL SHA-512", BYTES / atof(words[1]) * 1e9, ours);
+    if (openssl > 0) show("OpenSSL SHA-512", BYTES / openssl * 1e9, ours);
 
     row right[] = {{"fv_normal_form, refused under 5", roll_right, 0}, {"plain C common prefix", plain_prefix, 0}};
     TABLE("roll to the right over 64 MB", right);
@@ -159,5 +187,20 @@ int main(int count, char **words) {
                      {"of 10,000 residues each", rolls_of_10000, 0},
                      {"of 100,000 residues each", rolls_of_100000, 0}};
     TABLE("rolls, 20 million residues in all", lengths);
+
+    row alleles[] = {{"fv_allele_identifier", allele_identifiers, 0}};
+    TABLE("30 thousand allele identifiers", alleles);
+    double each = alleles[0].best / IDENTIFIERS;
+    if (second > 0) show("the second program, in Python", IDENTIFIERS / second * 1e9, alleles[0].best);
+    printf("%-46s %9.0f a second\n", "fv_allele_identifier", 1e9 / each);
+    if (second > 0) printf("%-46s %9.0f a second\n", "the second program, in Python", second);
+
+    row long_allele[] = {{"fv_allele_identifier", long_allele_identifier, 0},
+                         {"plain C SHA-512", plain_long_digest, 0},
+                         {"plain C roll to both sides", plain_long_roll, 0},
+                         {"plain C letter test", plain_long_test, 0}};
+    TABLE("allele identifier, 10 million letters", long_allele);
+    show("plain C SHA-512, roll and letter test",
+         long_allele[1].best + long_allele[2].best + long_allele[3].best, long_allele[0].best);
     return 0;
 }

@@ -97,6 +97,139 @@ fv_form fv_normal_form(const uint8_t *reference, size_t reference_len, uint64_t 
                        const uint8_t *replacement, size_t replacement_len,
                        uint8_t *out, size_t out_len, uint64_t place);
 
+/*
+ * Writes the text of a location, from out[place] on: the interval from start to end, as given, of the
+ * sequence that has this digest and `reference_length` residues. It is the serialized form of
+ * VRS 1.1.2, with no spaces:
+ * {"interval":{"end":E,"start":T,"type":"SimpleInterval"},"sequence_id":"D","type":"SequenceLocation"}
+ * where E and T are end and start in decimal, and D is the digest: 32 base64url characters (A to Z,
+ * a to z, 0 to 9, - and _), without `ga4gh:SQ.` before them. The bytes of `out` before and after the
+ * text stay as they were.
+ *
+ * Accepted: { 0, 0, length }. Refused, in this order:
+ *   1, value 0    reference_length is over 1,000,000,000;
+ *   2, value 0    start is above end;
+ *   3, value n    end is above n, which is reference_length;
+ *   7, value 32   the digest has not 32 bytes;
+ *   7, value i    digest[i] is not a base64url character, and every byte before it is one;
+ *   6, value l    the text has l bytes, and `out` has fewer from `place` on, or `place` is past its end.
+ * No number is too large to be refused so.
+ *
+ * With reference_length 11, start 1, end 10 and the digest of `TCAGCAGCAGT`, which is
+ * `zR7HujP8jYfpROv-hBLZMHuR_5P4Zo0q`, the 132 bytes are (in one line)
+ * {"interval":{"end":10,"start":1,"type":"SimpleInterval"},
+ * "sequence_id":"zR7HujP8jYfpROv-hBLZMHuR_5P4Zo0q","type":"SequenceLocation"}
+ */
+fv_written fv_location_text(uint64_t reference_length, uint64_t start, uint64_t end,
+                            const uint8_t *digest, size_t digest_len,
+                            uint8_t *out, size_t out_len, uint64_t place);
+
+/*
+ * Writes the identifier of a location likewise: the 10 bytes `ga4gh:VSL.`, then the digest of its text,
+ * which needs no room. That is 42 bytes.
+ *
+ * Accepted: { 0, 0, 42 }. Refused as fv_location_text is, but
+ *   6, value 42   `out` has fewer than 42 bytes from `place` on, or `place` is past its end.
+ *
+ * For the same location it is
+ * ga4gh:VSL.NERH7ClkNiblyxw1x18NLM8Y7sEdWeN7
+ */
+fv_written fv_location_identifier(uint64_t reference_length, uint64_t start, uint64_t end,
+                                  const uint8_t *digest, size_t digest_len,
+                                  uint8_t *out, size_t out_len, uint64_t place);
+
+/*
+ * Writes the text of an allele's normal form (see fv_normal_form; an unchanged allele is written as it
+ * was given), from out[place] on. It is the serialized form of VRS 1.1.2, with no spaces:
+ * {"location":"L","state":{"sequence":"X","type":"SequenceState"},"type":"Allele"}
+ * where L is the digest of the normal interval's location text, and X the normal replacement. The
+ * digest of the reference is taken as given: nothing compares it with the reference. The bytes of `out`
+ * before and after the text stay as they were.
+ *
+ * Accepted: { 0, 0, length }. Refused, in this order:
+ *   1, value 0    the reference has over 1,000,000,000 bytes;
+ *   1, value 1    the replacement has over 1,000,000 bytes;
+ *   2, value 0    start is above end;
+ *   3, value n    end is above n, the length of the reference;
+ *   4, value i    replacement[i] is not a residue, and no byte before it is foreign;
+ *   7, value 32   the digest has not 32 bytes;
+ *   7, value i    digest[i] is not a base64url character, and every byte before it is one;
+ *   5, value i    byte i of the normal replacement is not a residue, and no byte before it is foreign;
+ *   6, value l    the text has l bytes, and `out` has fewer from `place` on, or `place` is past its end.
+ * No `start`, `end` or `place` is too large to be refused so.
+ *
+ * With the reference `TCAGCAGCAGT` and its digest `zR7HujP8jYfpROv-hBLZMHuR_5P4Zo0q`, start 4, end 4 and
+ * the replacement `CAG`, the 122 bytes are (in one line)
+ * {"location":"NERH7ClkNiblyxw1x18NLM8Y7sEdWeN7",
+ * "state":{"sequence":"CAGCAGCAGCAG","type":"SequenceState"},"type":"Allele"}
+ */
+fv_written fv_allele_text(const uint8_t *reference, size_t reference_len, uint64_t start, uint64_t end,
+                          const uint8_t *replacement, size_t replacement_len,
+                          const uint8_t *digest, size_t digest_len,
+                          uint8_t *out, size_t out_len, uint64_t place);
+
+/*
+ * Writes the identifier of an allele likewise: the 9 bytes `ga4gh:VA.`, then the digest of its text,
+ * which needs no room. That is 41 bytes. Two alleles that make the same sequence, other than the
+ * reference itself, have the same identifier.
+ *
+ * Accepted: { 0, 0, 41 }. Refused as fv_allele_text is, but
+ *   6, value 41   `out` has fewer than 41 bytes from `place` on, or `place` is past its end.
+ *
+ * For the same allele it is
+ * ga4gh:VA.AI9QWkPg6MybxSaPDP38hunMAsLzNpmS
+ */
+fv_written fv_allele_identifier(const uint8_t *reference, size_t reference_len, uint64_t start, uint64_t end,
+                                const uint8_t *replacement, size_t replacement_len,
+                                const uint8_t *digest, size_t digest_len,
+                                uint8_t *out, size_t out_len, uint64_t place);
+
+/* What a location text says. Where it is refused, all that follows `value` is 0. */
+typedef struct {
+    uint64_t refusal;
+    uint64_t value;
+    uint64_t start;
+    uint64_t end;
+    uint64_t digest; /* the offset of D in the text, where its 32 characters stand */
+} fv_location;
+
+/*
+ * Reads a location text: the whole of `text`, laid out as fv_location_text writes it. T is at most E, E
+ * at most 1,000,000,000, both without leading zeros, and D any 32 base64url characters. Nothing is
+ * written.
+ *
+ * Accepted: { 0, 0, start, end, digest }. Refused:
+ *   8, value l    any other text; its first l bytes begin some accepted text, and l + 1 do not (or
+ *                 there are no more).
+ *
+ * The text of fv_location_text's example is answered { 0, 0, 1, 10, 72 }. With `"start":11` in the place of
+ * `"start":1` it is refused { 8, 31, 0, 0, 0 }: behind the 31 bytes `{"interval":{"end":10,"start":1` a
+ * second 1 would make the start larger than the end.
+ */
+fv_location fv_read_location(const uint8_t *text, size_t text_len);
+
+/* Where an allele text has what it says. Where it is refused, all that follows `value` is 0. */
+typedef struct {
+    uint64_t refusal;
+    uint64_t value;
+    uint64_t location; /* the offset of L in the text, where its 32 characters stand */
+    uint64_t sequence; /* the offset of X in the text */
+    uint64_t length;   /* of X */
+} fv_allele;
+
+/*
+ * Reads an allele text: the whole of `text`, laid out as fv_allele_text writes it. L is any 32 base64url
+ * characters, and X has at most 1,001,000,000 letters from A to Z, or none. Nothing is written.
+ *
+ * Accepted: { 0, 0, 13, 68, length }. Refused:
+ *   8, value l    any other text; its first l bytes begin some accepted text, and l + 1 do not (or
+ *                 there are no more).
+ *
+ * The text of fv_allele_text's example is answered { 0, 0, 13, 68, 12 }. Without its last byte it is
+ * refused { 8, 121, 0, 0, 0 }, and so it is with another byte there.
+ */
+fv_allele fv_read_allele(const uint8_t *text, size_t text_len);
+
 #ifdef __cplusplus
 }
 #endif

@@ -31,7 +31,7 @@ enum { PROT_NONE = 0, PROT_READ = 1, PROT_WRITE = 2 };
 enum { MAP_PRIVATE = 2, MAP_ANONYMOUS = 0x20, MAP_NORESERVE = 0x4000 };
 
 enum { CHUNK = 1 << 20, PAGE = 4096, GUARD = 64, ROOM = 1 << 28 };
-enum { NUMBERS = 8, SLICES = 4, ANSWERS = 8 };
+enum { NUMBERS = 4, SLICES = 4, ANSWERS = 6 };
 #define UNTOUCHED (UINT64_C(1) << 63)
 
 typedef struct {
@@ -48,23 +48,53 @@ typedef struct {
 } call;
 
 static const call calls[] = {
-    {'s', 1, "rw"},  /* fv_sequence_identifier: place; reference, out */
-    {'n', 3, "rrw"}, /* fv_normal_form: start, end, place; reference, replacement, out */
+    {'s', 1, "rw"},   /* fv_sequence_identifier: place; reference, out */
+    {'n', 3, "rrw"},  /* fv_normal_form: start, end, place; reference, replacement, out */
+    {'L', 4, "rw"},   /* fv_location_text: reference_length, start, end, place; digest, out */
+    {'l', 4, "rw"},   /* fv_location_identifier: likewise */
+    {'A', 3, "rrrw"}, /* fv_allele_text: start, end, place; reference, replacement, digest, out */
+    {'a', 3, "rrrw"}, /* fv_allele_identifier: likewise */
+    {'R', 0, "r"},    /* fv_read_location: text */
+    {'r', 0, "r"},    /* fv_read_allele: text */
 };
+
+static int written(fv_written w, uint64_t *a) {
+    a[0] = w.refusal, a[1] = w.value, a[2] = w.length;
+    return 3;
+}
 
 /* Makes the call and answers how many numbers it left in a. */
 static int make(char code, const uint64_t *n, const slice *s, uint64_t *a) {
     switch (code) {
-    case 's': {
-        fv_written w = fv_sequence_identifier(s[0].at, s[0].length, s[1].at, s[1].length, n[0]);
-        a[0] = w.refusal, a[1] = w.value, a[2] = w.length;
-        return 3;
-    }
+    case 's':
+        return written(fv_sequence_identifier(s[0].at, s[0].length, s[1].at, s[1].length, n[0]), a);
     case 'n': {
         fv_form f = fv_normal_form(s[0].at, s[0].length, n[0], n[1], s[1].at, s[1].length,
                                    s[2].at, s[2].length, n[2]);
         a[0] = f.refusal, a[1] = f.value, a[2] = f.kind, a[3] = f.start, a[4] = f.end, a[5] = f.length;
         return 6;
+    }
+    case 'L':
+        return written(fv_location_text(n[0], n[1], n[2], s[0].at, s[0].length,
+                                        s[1].at, s[1].length, n[3]), a);
+    case 'l':
+        return written(fv_location_identifier(n[0], n[1], n[2], s[0].at, s[0].length,
+                                              s[1].at, s[1].length, n[3]), a);
+    case 'A':
+        return written(fv_allele_text(s[0].at, s[0].length, n[0], n[1], s[1].at, s[1].length,
+                                      s[2].at, s[2].length, s[3].at, s[3].length, n[2]), a);
+    case 'a':
+        return written(fv_allele_identifier(s[0].at, s[0].length, n[0], n[1], s[1].at, s[1].length,
+                                            s[2].at, s[2].length, s[3].at, s[3].length, n[2]), a);
+    case 'R': {
+        fv_location l = fv_read_location(s[0].at, s[0].length);
+        a[0] = l.refusal, a[1] = l.value, a[2] = l.start, a[3] = l.end, a[4] = l.digest;
+        return 5;
+    }
+    case 'r': {
+        fv_allele l = fv_read_allele(s[0].at, s[0].length);
+        a[0] = l.refusal, a[1] = l.value, a[2] = l.location, a[3] = l.sequence, a[4] = l.length;
+        return 5;
     }
     }
     return 0;

@@ -16,10 +16,10 @@ def texts(longest):
             yield bytes(text)
 
 
-def every_small():
-    """Every allele on a reference of up to 6 residues, each A or C, with a replacement of up to 3."""
+def every_small(longest=6):
+    """Every allele on a reference of up to so many residues, each A or C, with a replacement of up to 3."""
     replacements = list(texts(3))
-    for reference in texts(6):
+    for reference in texts(longest):
         for end in range(len(reference) + 1):
             for start in range(end + 1):
                 for replacement in replacements:

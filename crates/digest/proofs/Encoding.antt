@@ -31,7 +31,7 @@ pub ranged-right : (n : ℕ) → n < 64 → ranged n ≡ character n
 unfolding agrees
 ranged-right n h = eqb-true (ranged n) (character n) (below-at agrees 64 every-value n h)
 
-encoded-more : (i : ℕ) (d : List ℕ) → suc i * 3 ≤ length d → encoded (take (suc i * 3) d) ≡ encoded (take (i * 3) d) ++ group (getD d (i * 3) 0) (getD d (suc (i * 3)) 0) (getD d (suc (suc (i * 3))) 0)
+pub encoded-more : (i : ℕ) (d : List ℕ) → suc i * 3 ≤ length d → encoded (take (suc i * 3) d) ≡ encoded (take (i * 3) d) ++ group (getD d (i * 3) 0) (getD d (suc (i * 3)) 0) (getD d (suc (suc (i * 3))) 0)
 unfolding encoded
 encoded-more i [] h = absurd (omega arith)
 encoded-more i (a ∷ []) h = absurd (omega arith)

@@ -1,3 +1,4 @@
+pub mod Characters
 pub mod Cut
 pub mod Encoding
 pub mod Promises

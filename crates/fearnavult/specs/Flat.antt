@@ -1,16 +1,19 @@
--- The answers of the calls as C reads them, and what each export promises: what the call below it answers, flattened, and what that leaves.
+-- The answers of the calls as C reads them, and what every export promises: what the call below it answers, flattened.
 use Prim.Native.Nat.{ℕ}
 use mathlib.Core.Path.{_≡_}
-use mathlib.Core.List.{List}
 use Rattle.refusal.specs.declared.Written.{Written}
 use Rattle.refusal.specs.declared.Written.the-variants.{Bytes, Refused}
 use Rattle.normal.specs.declared.Kind.{Kind}
 use Rattle.normal.specs.declared.Kind.the-variants.{Unchanged, Substitution, Indel}
 use Rattle.normal.specs.declared.Normalised.{Normalised}
 use Rattle.normal.specs.declared.Normalised.the-variants.{Accepted as Formed, Refused as Unformed}
-use Rattle.normal.specs.Calls.{Normalises}
-use Rattle.digest.specs.Calls.{Identifies}
+use Rattle.reading.specs.declared.LocationRead.{LocationRead}
+use Rattle.reading.specs.declared.LocationRead.the-variants.{Accepted as Located, Refused as Unlocated}
+use Rattle.reading.specs.declared.AlleleRead.{AlleleRead}
+use Rattle.reading.specs.declared.AlleleRead.the-variants.{Accepted as Alleled, Refused as Unalleled}
+use Rattle.fearnavult.specs.declared.FvAllele.{FvAllele}
 use Rattle.fearnavult.specs.declared.FvForm.{FvForm}
+use Rattle.fearnavult.specs.declared.FvLocation.{FvLocation}
 use Rattle.fearnavult.specs.declared.FvWritten.{FvWritten}
 
 abbrev pub flatWritten : Written → FvWritten
@@ -26,13 +29,16 @@ abbrev pub flatForm : Normalised → FvForm
 flatForm (Formed f) = record { refusal = 0; value = 0; kind = flatKind (f .kind); start = f .start; end = f .end; length = f .length }
 flatForm (Unformed r) = record { refusal = r .number; value = r .value; kind = 0; start = 0; end = 0; length = 0 }
 
--- an answer of the call below, flattened, with what that call leaves
-pub record FlatIdentifies (reference out : List ℕ) (place : ℕ) (answer : FvWritten) (left : List ℕ) : Type 0 where
-  pub written : Written
-  pub flat : answer ≡ flatWritten written
-  pub identifies : Identifies reference out place written left
+abbrev pub flatLocation : LocationRead → FvLocation
+flatLocation (Located p) = record { refusal = 0; value = 0; start = p .start; end = p .end; digest = p .digest }
+flatLocation (Unlocated r) = record { refusal = r .number; value = r .value; start = 0; end = 0; digest = 0 }
 
-pub record FlatNormalises (r : List ℕ) (start end : ℕ) (x out : List ℕ) (place : ℕ) (answer : FvForm) (left : List ℕ) : Type 0 where
-  pub normalised : Normalised
-  pub flat : answer ≡ flatForm normalised
-  pub normalises : Normalises r start end x out place normalised left
+abbrev pub flatAllele : AlleleRead → FvAllele
+flatAllele (Alleled p) = record { refusal = 0; value = 0; location = p .location; sequence = p .sequence; length = p .length }
+flatAllele (Unalleled r) = record { refusal = r .number; value = r .value; location = 0; sequence = 0; length = 0 }
+
+-- an answer that keeps the promise of the call below, flattened
+pub record Flattened {A B : Type 0} (flatten : A → B) (Promise : A → Type 0) (answer : B) : Type 0 where
+  pub below : A
+  pub flat : answer ≡ flatten below
+  pub promised : Promise below

@@ -8,16 +8,18 @@ use lib.Dec.{eqb, ltb}
 use lib.ListN.{length, take, drop}
 use borrow.Author.Tests.{eqb-true, ltb-false, not-false}
 use Rattle.stretch.specs.Over.{over}
-use Rattle.stretch.proofs.Over.{over-tail-front}
+use Rattle.stretch.specs.Part.{part}
+use Rattle.stretch.proofs.Over.{over-tail-front, part-over}
 use Rattle.refusal.specs.declared.Outcome.the-variants.{Accepted, Refused}
 use Rattle.refusal.specs.declared.Refusal.{Refusal}
 use Rattle.refusal.specs.declared.Written.{Written}
 use Rattle.refusal.specs.declared.Written.the-variants.{Bytes, Refused as Unwritten}
-use Rattle.refusal.specs.Verdict.{Ground, accepted, refused, verdict}
+use Rattle.refusal.specs.Verdict.{Ground, Verdict, accepted, refused, verdict, tell}
 use Rattle.refusal.specs.Writes.{outputTooShort, Writes}
 use Rattle.refusal.proofs.Verdict.{none-holds, verdict-first, verdict-then, verdict-fewer, verdict-later, outcome-accepted, outcome-refused}
 use Rattle.refusal.proofs.Writes.{writes-nothing, writes-all, writes-as}
-use Rattle.letters.specs.Letters.{digestTextGrounds, digestTextAnswer}
+use Rattle.letters.specs.Letters.{base64url, firstOutside, digestTextGrounds, digestTextAnswer}
+use Rattle.letters.proofs.Outside.{firstOutside-le, firstOutside-all}
 use Rattle.normal.specs.declared.Located.{Located}
 use Rattle.normal.specs.declared.Located.the-variants.{Accepted as Found, Refused as Unfound}
 use Rattle.normal.specs.declared.Stretches.{Stretches}
@@ -26,11 +28,35 @@ use Rattle.normal.specs.Stretches.{Fits, joined, stretchesOf, formIn}
 use Rattle.normal.specs.Calls.{givenGrounds, foreignNormal, located, cleanly}
 use Rattle.normal.proofs.Answers.{told-accepted, told-refused, given-allele, located-form}
 use Rattle.normal.proofs.Join.{stretches-fit, stretches-join}
-use Rattle.identify.specs.Calls.{intervalGrounds, locationGrounds, alleleGrounds, Says, SaysLocation, locationAnswer, alleleAnswer, restAnswer}
+use Rattle.reading.specs.Accepted.{Digest}
+use Rattle.identify.specs.Calls.{intervalGrounds, locationGrounds, alleleGrounds, Says, locationAnswer, alleleAnswer, restAnswer}
 
 pub digest-long : (d : List ℕ) → verdict (digestTextGrounds d) ≡ accepted → length d ≡ 32
 unfolding digestTextGrounds
 digest-long d v = eqb-true (length d) 32 (not-false (eqb (length d) 32) (none-holds (digestTextGrounds d) v 0))
+
+pub digest-given : (d : List ℕ) → verdict (digestTextGrounds d) ≡ accepted → Digest d
+unfolding digestTextGrounds
+digest-given d v =
+    let passed : length d ≤ firstOutside base64url d = ltb-false (firstOutside base64url d) (length d) (none-holds (digestTextGrounds d) v 1) in
+    record { long = digest-long d v; characters = firstOutside-all base64url d (omega (arith, firstOutside-le base64url d)) }
+
+-- what an accepted write tells: the grounds, the length, the bytes
+written-bytes : (v : Verdict) (n k : ℕ) → Bytes k ≡ tell Unwritten v (Bytes n) → (v ≡ accepted) × (k ≡ n)
+written-bytes accepted n k h = (refl, cc)
+written-bytes (refused r) n k h = (cc, cc)
+
+pub record Said (gs : List Ground) (text out : List ℕ) (place k : ℕ) (left : List ℕ) : Type 0 where
+  pub grounds : verdict gs ≡ accepted
+  pub stands : part left place (place + k) ≡ text
+
+pub says-said : (gs : List Ground) (text out : List ℕ) (place k : ℕ) (left : List ℕ) → Says gs text out place (Bytes k) left → Said gs text out place k left
+unfolding Says
+says-said gs text out place k left p =
+    let six = outputTooShort (length out) place (length text) ∷ [] in
+    let t = written-bytes (verdict (gs ++ six)) (length text) k (p .answers) in
+    let room : place + length text ≤ length out = ltb-false (length out) (place + length text) (none-holds six (verdict-later gs six (t .0)) 0) in
+    record { grounds = verdict-fewer gs six (t .0); stands = rw (p .leaves, t .0) (part-over out place text k (omega arith) (t .1)) }
 
 -- 6 behind other grounds
 module _ (gs : List Ground) (text out : List ℕ) (place : ℕ) where

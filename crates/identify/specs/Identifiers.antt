@@ -1,5 +1,6 @@
 -- Document 01, "Texts and identifiers": the identifier of a location, and the text and the identifier of an allele in its normal form.
 use Prim.Native.Nat.{ℕ}
+use mathlib.Core.Path.{_≡_}
 use mathlib.Core.List.{List, _++_}
 use Rattle.stretch.specs.Ascii.{ascii}
 use Rattle.normal.specs.Form.{Normal}
@@ -17,3 +18,8 @@ textOf form digest = alleleText (sha512t24u (locationText (form .start) (form .e
 -- 41 bytes, over the allele text
 unfoldable pub identifierOf : Normal → List ℕ → List ℕ
 identifierOf form digest = ascii "ga4gh:VA." ++ sha512t24u (textOf form digest)
+
+-- two texts that have one digest
+pub record Collision (m₁ m₂ : List ℕ) : Type 0 where
+  pub apart : m₁ ≡ m₂ → ⊥
+  pub one : sha512t24u m₁ ≡ sha512t24u m₂

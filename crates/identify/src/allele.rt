@@ -1,5 +1,5 @@
 // The text and the identifier of an allele, in its normal form.
-use super::hash::allele_hash;
+use super::hash::form_hash;
 use super::hash::location_digest;
 use digest::place_identifier;
 use letters::check_digest_text;
@@ -119,17 +119,7 @@ fn write_identifier(
     if sum_exceeds(place, IDENTIFIER_LENGTH, out.len() as u64) {
         return Written::Refused(refuse(OUTPUT_TOO_SHORT, IDENTIFIER_LENGTH));
     }
-    let left = w.left;
-    let from = w.from;
-    let to = w.to;
-    let right = w.right;
-    let location = location_digest(w.start as u64, w.end as u64, digest);
-    let hash = allele_hash(
-        &location,
-        &reference[left..start],
-        &replacement[from..to],
-        &reference[end..right],
-    );
+    let hash = form_hash(reference, start, end, replacement, digest, w);
     place_identifier(out, place, &ALLELE_PREFIX, &hash)
 }
 

@@ -1,5 +1,6 @@
 // The digests of the two texts. An allele text is hashed as its parts lie, without being built.
 use digest::write_digest_text;
+use normal::Stretches;
 use text::BEFORE_LOCATION;
 use text::BEFORE_SEQUENCE;
 use text::BEHIND_SEQUENCE;
@@ -8,9 +9,11 @@ ghost use mathlib.Core.Path.{_≡_};
 ghost use mathlib.Core.List.{_++_};
 ghost use Prim.Native.Nat.{_+_, _^_, _<_};
 ghost use lib.ListN.{length};
+ghost use Rattle.normal.specs.Stretches.{Fits, formIn};
 ghost use Rattle.sha512.specs.Message.{sha512};
 ghost use Rattle.digest.specs.Identifier.{sha512t24u};
 ghost use Rattle.text.specs.Layout.{locationText, alleleText};
+ghost use Rattle.identify.specs.Identifiers.{textOf};
 
 // Room for a location text with two numbers of 20 digits.
 const LONGEST_LOCATION: usize = 169;
@@ -36,7 +39,7 @@ pub fn location_digest(start: u64, end: u64, digest: &[u8]) -> [u8; 32]
 }
 
 // The replacement comes in three stretches.
-pub fn allele_hash(location: &[u8], a: &[u8], b: &[u8], c: &[u8]) -> [u8; 64]
+fn allele_hash(location: &[u8], a: &[u8], b: &[u8], c: &[u8]) -> [u8; 64]
     requires { ⌜ length (now location) + (length (now a) + (length (now b) + (length (now c) + 78))) < 2 ^ 64 ⌝ }
     ensures { λ r. ⌜ r ≡ sha512 (alleleText (now (location .entry)) (now (a .entry) ++ (now (b .entry) ++ now (c .entry)))) ⌝ }
 {
@@ -47,4 +50,30 @@ pub fn allele_hash(location: &[u8], a: &[u8], b: &[u8], c: &[u8]) -> [u8; 64]
     let third = sha512::feed(second, b);
     let last = sha512::feed(third, c);
     sha512::finish(sha512::feed(last, &BEHIND_SEQUENCE))
+}
+
+// The form that the stretches hold.
+pub fn form_hash(
+    reference: &[u8],
+    start: usize,
+    end: usize,
+    replacement: &[u8],
+    digest: &[u8],
+    w: Stretches,
+) -> [u8; 64]
+    requires { ⌜ Fits (now reference) start end (now replacement) w ⌝ }
+    requires { ⌜ length (now digest) ≡ 32 ⌝ }
+    ensures { λ r. ⌜ r ≡ sha512 (textOf (formIn (now (reference .entry)) start end (now (replacement .entry)) w) (now (digest .entry))) ⌝ }
+{
+    let location = location_digest(w.start as u64, w.end as u64, digest);
+    let left = w.left;
+    let from = w.from;
+    let to = w.to;
+    let right = w.right;
+    allele_hash(
+        &location,
+        &reference[left..start],
+        &replacement[from..to],
+        &reference[end..right],
+    )
 }

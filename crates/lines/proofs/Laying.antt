@@ -1,15 +1,14 @@
--- Texts laid one behind the other, and whole texts where there is room for them.
-use Prim.Native.Nat.{ℕ, _+_, _-_, _^_, _<_, _≤_}
+-- Short texts, and whole texts where there is room for them.
+use Prim.Native.Nat.{ℕ, _+_, _^_, _<_, _≤_}
 use native.Mathlib.Omega.{arith}
 use mathlib.Core.Path.{_≡_, _∙_, sym, ap}
 use mathlib.Core.List.{List, [], _∷_, _++_}
-use lib.ListN.{length, take, drop, set, length-append}
+use lib.ListN.{length, length-append}
 use lib.Dec.{ltb}
 use borrow.Author.Tests.{lt-ltb, le-ltb, ltb-false}
 use Rattle.stretch.proofs.Cases.{by-cases}
 use Rattle.stretch.specs.Over.{over}
-use Rattle.stretch.proofs.Over.{over-next, length-over}
-use Rattle.stretch.proofs.Wrote.{then-byte}
+use Rattle.stretch.proofs.Over.{length-over}
 use Rattle.refusal.specs.declared.Refusal.{Refusal}
 use Rattle.refusal.specs.declared.Written.{Written}
 use Rattle.refusal.specs.declared.Written.the-variants.{Bytes, Refused}
@@ -19,14 +18,6 @@ use Rattle.normal.specs.declared.Kind.the-variants.{Unchanged, Substitution, In
 use Rattle.text.specs.Decimal.{decimal}
 use Rattle.text.proofs.Digits.{decimal-within}
 use Rattle.lines.specs.Answers.{word, Puts}
-
--- a front, and behind it a text in a tail and a byte
-pub front-then : (l f s : List ℕ) (b n : ℕ) → n ≡ length f + length s → n < length l
-    → set (take (length f) (over l 0 f) ++ (over (take (length (over l 0 f) - length f) (drop (length f) (over l 0 f))) 0 s ++ drop (length (over l 0 f) - length f) (drop (length f) (over l 0 f)))) n b
-    ≡ over l 0 (f ++ (s ++ (b ∷ [])))
-front-then l f s b n e h =
-    then-byte (over l 0 f) (length f) s b n e (omega (arith, length-over l 0 f (omega arith)))
-    ∙ over-next l 0 (length f) f (s ++ (b ∷ [])) (omega arith) (omega arith)
 
 pub number-short : (n b : ℕ) → n < 2 ^ 64 → length (decimal n ++ (b ∷ [])) ≤ 21
 number-short n b h = simp length-append (omega (arith, decimal-within n h))

@@ -6,7 +6,7 @@ use refusal::refuse;
 use stretch::copy;
 use stretch::put;
 use stretch::put_three;
-use text::write_decimal;
+use text::put_decimal;
 ghost use mathlib.Core.List.{_++_, _∷_, []};
 ghost use Prim.Native.Nat.{_+_, _≤_, _^_, _<_};
 ghost use lib.ListN.{length};
@@ -20,7 +20,7 @@ fn put_number(out: &mut [u8], at: usize, n: u64, behind: u8) -> usize
     requires { ⌜ at + (length (decimal n) + 1) ≤ length (now out) ⌝ }
     ensures { λ r. ⌜ Wrote (now (out .entry)) at (decimal n ++ (behind ∷ [])) (now (out .exit)) r ⌝ }
 {
-    let end = at + write_decimal(&mut out[at..], n);
+    let end = put_decimal(out, at, n);
     out[end] = behind;
     end + 1
 }
@@ -75,8 +75,8 @@ pub fn put_line(out: &mut [u8], front: &[u8], a: &[u8], b: &[u8], c: &[u8]) -> W
     if out.len() <= end {
         return Written::Refused(refuse(OUTPUT_TOO_SHORT, end as u64 + 1));
     }
-    copy(out, front);
-    put_three(&mut out[front.len()..], 0, a, b, c);
-    out[end] = b'\n';
+    let at = put(out, 0, front);
+    let last = put_three(out, at, a, b, c);
+    out[last] = b'\n';
     Written::Bytes(end as u64 + 1)
 }

@@ -15,6 +15,7 @@ use Rattle.stretch.proofs.Suffix.{lcs-le-left, lcs-le-right, lcs-drop}
 use Rattle.stretch.proofs.Interval.{part-between}
 use Rattle.normal.specs.declared.Kind.the-variants.{Unchanged}
 use Rattle.normal.specs.Form.{altered, shorter, within, ahead, behind, Normal, changedForm, normal}
+use Rattle.normal.proofs.Flanks.{length-altered}
 
 -- the two lengths that are kept: each within its common length, and both together within the shorter sequence
 module _ (r t : List ℕ) where
@@ -110,6 +111,17 @@ module _ (r : List ℕ) (start end : ℕ) (x : List ℕ) where
   unfolding changedForm
   normal-inside h =
       by-cases (same r (altered r start end x)) (λ e. rw (normal-unchanged e) h) (λ e. rw (normal-changed e) (omega arith))
+
+  -- its replacement is no longer than the reference and the replacement given together
+  pub normal-short : start ≤ end → end ≤ length r → length (normal r start end x .replacement) ≤ length r + length x
+  normal-short h g =
+      let f = normal r start end x in
+      omega (
+        arith,
+        ap length yields,
+        length-altered r (f .start) (f .end) (f .replacement) (normal-ordered h) (normal-inside g),
+        length-altered r start end x h g,
+      )
 
 -- forms that agree in their interval and their replacement are of one altered sequence
 pub one-altered : (r : List ℕ) (s₁ e₁ : ℕ) (x₁ : List ℕ) (s₂ e₂ : ℕ) (x₂ : List ℕ)

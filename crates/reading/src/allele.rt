@@ -24,10 +24,11 @@ pub fn read_allele(text: &[u8]) -> AlleleRead
     let behind = past_letters(text, sequence, SEQUENCE_LIMIT as usize);
     let close = past_word(text, behind, &BEHIND_SEQUENCE);
     if close.on && close.at == text.len() {
+        let length = behind.at - sequence.at;
         return AlleleRead::Accepted(AlleleParts {
             location: location.at as u64,
             sequence: sequence.at as u64,
-            length: (behind.at - sequence.at) as u64,
+            length: length as u64,
         });
     }
     AlleleRead::Refused(refuse(TEXT_NOT_ACCEPTED, close.at as u64))

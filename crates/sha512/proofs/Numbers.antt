@@ -4,7 +4,7 @@ use native.Mathlib.Omega.{arith}
 use native.Mathlib.Numerals.{add-one}
 use mathlib.Core.Path.{_≡_, refl, ap, _∙_}
 use mathlib.Core.List.{List, [], _∷_, _++_, append-assoc}
-use lib.ListN.{length, take, drop, set, length-append, length-drop, length-set}
+use lib.ListN.{length, getD, take, drop, set, length-append, length-drop, length-set}
 use lib.Seq.{length-take-le, drop-cons, drop-set-lt, getD-set-same}
 use Rattle.stretch.specs.Over.{over}
 use Rattle.stretch.proofs.Over.{over-next, set-over, length-over}
@@ -52,6 +52,31 @@ length-fourWords a b c d = simp (length-append, length-bytesOf)
 pub length-sha512 : (m : List ℕ) → length (sha512 m) ≡ 64
 unfolding sha512 hashBytes
 length-sha512 m = simp (length-append, length-fourWords)
+
+-- every byte of it is below 256, as every byte of a number is
+bytes-append : (xs ys : List ℕ) → ((i : ℕ) → getD xs i 0 < 256) → ((i : ℕ) → getD ys i 0 < 256) → (i : ℕ) → getD (xs ++ ys) i 0 < 256
+bytes-append [] ys f g i = g i
+bytes-append (x ∷ xs) ys f g zero = f 0
+bytes-append (x ∷ xs) ys f g (suc i) = bytes-append xs ys (λ j. f (suc j)) g i
+
+bytesOf-bytes : (n x i : ℕ) → getD (bytesOf n x) i 0 < 256
+unfolding bytesOf
+bytesOf-bytes zero x i = omega arith
+bytesOf-bytes (suc n) x i = bytes-append (bytesOf n (x / 256)) (x % 256 ∷ []) (bytesOf-bytes n (x / 256)) last i
+  where
+    last : (j : ℕ) → getD (x % 256 ∷ []) j 0 < 256
+    last zero = omega arith
+    last (suc j) = omega arith
+
+fourWords-bytes : (a b c d i : ℕ) → getD (fourWords a b c d) i 0 < 256
+unfolding fourWords
+fourWords-bytes a b c d =
+    bytes-append (bytesOf 8 a) _ (bytesOf-bytes 8 a)
+    (bytes-append (bytesOf 8 b) _ (bytesOf-bytes 8 b) (bytes-append (bytesOf 8 c) (bytesOf 8 d) (bytesOf-bytes 8 c) (bytesOf-bytes 8 d)))
+
+pub sha512-bytes : (m : List ℕ) (i : ℕ) → getD (sha512 m) i 0 < 256
+unfolding sha512 hashBytes
+sha512-bytes m = bytes-append (fourWords _ _ _ _) (fourWords _ _ _ _) (fourWords-bytes _ _ _ _) (fourWords-bytes _ _ _ _)
 
 -- the bytes of a count of bits, from the count of bytes
 bits-bytes : (k n : ℕ) → bytesOf k (n / 32) ++ (n % 32 * 8 ∷ []) ≡ bytesOf (suc k) (n * 8)

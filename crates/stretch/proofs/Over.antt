@@ -1,13 +1,14 @@
 -- What a write leaves of a buffer: its length, writes in a row, writes into a lent tail.
 use Prim.Native.Nat.{ℕ, _+_, _-_, _<_, _≤_}
-use native.Mathlib.Nat.{add-zero, zero-add, add-assoc}
+use native.Mathlib.Nat.{add-zero, zero-add, add-assoc, add-sub-cancel-left}
 use native.Mathlib.Numerals.{add-one}
 use native.Mathlib.Omega.{arith}
 use mathlib.Core.Path.{_≡_, refl, _∙_, sym, ap}
 use mathlib.Core.List.{List, [], _∷_, _++_, append-assoc, append-nil}
 use lib.ListN.{length, getD, take, drop, set, length-append, length-take, length-drop, take-append-drop, drop-of-length-le}
-use lib.Seq.{set-split, take-at, drop-at, drop-drop, take-take, take-add, take-length, drop-append-le, paste, paste-suc, length-paste, take-paste, drop-paste}
+use lib.Seq.{length-take-le, set-split, take-at, drop-at, drop-drop, take-take, take-add, take-length, drop-append-le, paste, paste-suc, length-paste, take-paste, drop-paste}
 use Rattle.stretch.specs.Over.{over}
+use Rattle.stretch.specs.Part.{part}
 
 -- a copy that has come to its end
 pub over-paste : (l : List ℕ) (at : ℕ) (s : List ℕ) → paste l at s (length s) ≡ over l at s
@@ -41,6 +42,13 @@ take-over l at s h = rw (← over-paste l at s) (take-paste l at s (length s) h 
 
 pub drop-over : (l : List ℕ) (at : ℕ) (s : List ℕ) → at ≤ length l → drop (at + length s) (over l at s) ≡ drop (at + length s) l
 drop-over l at s h = rw (← over-paste l at s) (drop-paste l at s (length s) h (omega arith))
+
+-- and between them what was laid
+pub part-over : (l : List ℕ) (at : ℕ) (s : List ℕ) (n : ℕ) → at ≤ length l → n ≡ length s → part (over l at s) at (at + n) ≡ s
+unfolding over
+part-over l at s n h e =
+    let behind = drop (length s) (drop at l) in
+    rw (add-sub-cancel-left at n, drop-at (take at l) (s ++ behind) at (length-take-le at l h)) (take-at s behind n (sym e))
 
 -- two writes, the second right behind the first, are one
 pub over-over : (l : List ℕ) (at : ℕ) (s t : List ℕ) → at ≤ length l → over (over l at s) (at + length s) t ≡ over l at (s ++ t)

@@ -1,11 +1,11 @@
 -- Texts laid one behind the other.
 use Prim.Native.Nat.{ℕ, _+_, _-_, _<_, _≤_}
 use native.Mathlib.Omega.{arith}
-use mathlib.Core.Path.{_≡_, _∙_, ap}
+use mathlib.Core.Path.{_≡_, refl, _∙_, ap}
 use mathlib.Core.List.{List, [], _∷_, _++_}
-use lib.ListN.{length, take, drop, set, length-append}
+use lib.ListN.{length, take, set, length-append}
 use Rattle.stretch.specs.Over.{over, Wrote}
-use Rattle.stretch.proofs.Over.{over-next, over-tail-front, set-over, length-over, take-over}
+use Rattle.stretch.proofs.Over.{over-next, set-over, length-over, take-over}
 
 -- a text laid over a buffer that has room for it
 pub wrote : (l : List ℕ) (at : ℕ) (s left : List ℕ) (n : ℕ) → at + length s ≤ length l → n ≡ at + length s → left ≡ over l at s → Wrote l at s left n
@@ -24,9 +24,7 @@ wrote-then l at s m n t k j h p q =
       room = q .room;
     }
 
--- a text in a lent tail that has come back, and a byte behind it
-pub then-byte : (l : List ℕ) (at : ℕ) (s : List ℕ) (b n : ℕ) → n ≡ at + length s → n < length l
-    → set (take at l ++ (over (take (length l - at) (drop at l)) 0 s ++ drop (length l - at) (drop at l))) n b ≡ over l at (s ++ (b ∷ []))
-then-byte l at s b n e h =
-    rw (over-tail-front l at s (omega arith))
-    (set-over (over l at s) n b (omega (arith, length-over l at s (omega arith))) ∙ over-next l at n s (b ∷ []) (omega arith) e)
+-- and a byte behind it
+pub wrote-byte : (l : List ℕ) (at : ℕ) (s m : List ℕ) (n b : ℕ) → at ≤ length l → Wrote l at s m n → n < length m → Wrote l at (s ++ (b ∷ [])) (set m n b) (n + 1)
+wrote-byte l at s m n b h w g =
+    wrote-then l at s m n (b ∷ []) (set m n b) (n + 1) h w (wrote m n (b ∷ []) (set m n b) (n + 1) (omega arith) refl (set-over m n b g))

@@ -23,7 +23,7 @@ fn form(out: &[u8], place: u64, found: Form) {
     labelled(b" ", found.end);
     let kind = found.kind;
     kind_name(kind);
-    part(out, place, found.length);
+    shown(part(out, place, found.length));
 }
 
 fn answered(out: &[u8], place: u64, found: Normalised) {

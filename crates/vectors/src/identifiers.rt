@@ -1,19 +1,9 @@
 // Identifiers of whole references, in buffers with and without room for them.
 use crate::print::labelled;
-use crate::print::part;
 use crate::print::shown;
 use crate::print::text;
-use crate::print::written;
-use refusal::Written;
+use crate::print::written_text;
 ghost use Prim.Native.Nat.{_≤_};
-
-fn written_text(out: &[u8], place: u64, answer: Written) {
-    let Written::Bytes(count) = answer else {
-        return;
-    };
-    text(b" ");
-    part(out, place, count);
-}
 
 fn line(reference: &[u8], out: &mut [u8], place: u64) {
     let answer = digest::sequence_identifier(reference, out, place);
@@ -21,7 +11,6 @@ fn line(reference: &[u8], out: &mut [u8], place: u64) {
     shown(reference);
     labelled(b" place ", place);
     labelled(b" room ", out.len() as u64);
-    written(answer);
     written_text(out, place, answer);
     text(b"\n");
 }

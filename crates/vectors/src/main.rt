@@ -7,7 +7,9 @@ mod identifiers;
 mod lengths;
 mod print;
 mod published;
+mod readings;
 mod running;
+mod texts;
 
 fn main() {
     published::lines();
@@ -17,4 +19,6 @@ fn main() {
     running::lines();
     digest_texts::lines();
     alleles::lines();
+    texts::lines();
+    readings::lines();
 }

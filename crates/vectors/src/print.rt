@@ -17,18 +17,25 @@ pub fn shown(s: &[u8]) {
     }
 }
 
-// So many bytes of `out` from `place` on; nothing where that is past its end.
-pub fn part(out: &[u8], place: u64, count: u64) {
+// So many bytes of `out` from `place` on; none where that is past its end.
+pub fn part(out: &[u8], place: u64, count: u64) -> &[u8] {
     let room = out.len() as u64;
     if room < place {
-        return;
+        return &out[0..0];
     }
     if room - place < count {
-        return;
+        return &out[0..0];
     }
     let from = place as usize;
     let end = (place + count) as usize;
-    shown(&out[from..end]);
+    &out[from..end]
+}
+
+pub fn two(label: &[u8], first: &[u8], second: &[u8]) {
+    text(label);
+    shown(first);
+    text(b" ");
+    shown(second);
 }
 
 pub fn labelled(label: &[u8], n: u64) {
@@ -63,4 +70,14 @@ pub fn written(answer: Written) {
         Written::Bytes(count) => labelled(b" written ", count),
         Written::Refused(r) => refused(r),
     }
+}
+
+// The answer, and what it says is written in `out` from `place` on.
+pub fn written_text(out: &[u8], place: u64, answer: Written) {
+    written(answer);
+    let Written::Bytes(count) = answer else {
+        return;
+    };
+    text(b" ");
+    shown(part(out, place, count));
 }

@@ -1,8 +1,8 @@
 -- The tail comes back with the identifier at its front.
 use mathlib.Core.Path.{refl, sym}
+use borrow.Author.Needs.{needs}
 use Rattle.refusal.proofs.Writes.{writes-all}
 use Rattle.digest.proofs.Encoding.{length-identifier, identifier-laid}
-use borrow.Author.Needs.{needs}
 use Rattle.digest.proofs.identifier.place_identifier.Statement.{statement}
 use Rattle.digest.proofs.identifier.place_identifier.Tie as tie
 

@@ -1,7 +1,7 @@
 -- 7, and 5 behind it.
 use mathlib.Core.Path.{_∙_, sym}
-use Rattle.identify.proofs.Answers.{rest-then, rest-refused}
 use borrow.Author.Needs.{needs}
+use Rattle.identify.proofs.Answers.{rest-then, rest-refused}
 use Rattle.identify.proofs.allele.check_rest.Statement.{statement}
 use Rattle.identify.proofs.allele.check_rest.Tie as tie
 

@@ -1,13 +1,12 @@
 -- The text is laid over the output's tail, where there is room.
-use native.Mathlib.Omega.{arith}
 use mathlib.Core.Path.{_≡_, _∙_, sym}
 use lib.ListN.{length}
+use borrow.Author.Needs.{needs}
 use Rattle.refusal.proofs.Sum.{place-within}
 use Rattle.normal.specs.Stretches.{joined}
 use Rattle.identify.specs.Identifiers.{textOf}
 use Rattle.identify.proofs.Hashing.{allele-long, allele-room}
 use Rattle.identify.proofs.Answers.{says-short, says-tail}
-use borrow.Author.Needs.{needs}
 use Rattle.identify.proofs.allele.write_text.Statement.{statement}
 use Rattle.identify.proofs.allele.write_text.Tie as tie
 

@@ -1,6 +1,6 @@
 -- Seven parts fed one after another are their join.
-use Rattle.identify.proofs.Hashing.{allele-hashed}
 use borrow.Author.Needs.{needs}
+use Rattle.identify.proofs.Hashing.{allele-hashed}
 use Rattle.identify.proofs.hash.allele_hash.Statement.{statement}
 use Rattle.identify.proofs.hash.allele_hash.Tie as tie
 

@@ -2,10 +2,10 @@
 use native.Mathlib.Omega.{arith}
 use mathlib.Core.Path.{_≡_}
 use lib.ListN.{length}
+use borrow.Author.Needs.{needs}
 use Rattle.stretch.proofs.Over.{over-all}
 use Rattle.digest.proofs.Encoding.{length-digestText}
 use Rattle.digest.specs.Identifier.{sha512t24u}
-use borrow.Author.Needs.{needs}
 use Rattle.identify.proofs.hash.location_digest.Statement.{statement}
 use Rattle.identify.proofs.hash.location_digest.Tie as tie
 

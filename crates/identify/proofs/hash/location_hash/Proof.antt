@@ -1,7 +1,7 @@
 -- The text at the front of a buffer that has room for the longest.
+use borrow.Author.Needs.{needs}
 use Rattle.stretch.proofs.Wrote.{wrote-front}
 use Rattle.identify.proofs.Hashing.{location-room}
-use borrow.Author.Needs.{needs}
 use Rattle.identify.proofs.hash.location_hash.Statement.{statement}
 use Rattle.identify.proofs.hash.location_hash.Tie as tie
 

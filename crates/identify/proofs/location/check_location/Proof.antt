@@ -1,7 +1,7 @@
 -- Each return is what the grounds say, by the tests that led there.
 use borrow.Author.Tests.{lt-ltb, le-ltb}
-use Rattle.identify.specs.Calls.{locationGrounds, locationAnswer}
 use borrow.Author.Needs.{needs}
+use Rattle.identify.specs.Calls.{locationGrounds, locationAnswer}
 use Rattle.identify.proofs.location.check_location.Statement.{statement}
 use Rattle.identify.proofs.location.check_location.Tie as tie
 

@@ -1,7 +1,7 @@
 -- The tests, and 6 behind them.
-use mathlib.Core.Path.{_≡_, _∙_, sym}
-use Rattle.identify.proofs.Answers.{says-then, says-nothing, location-accepted, location-digest, location-refused}
+use mathlib.Core.Path.{_∙_, sym}
 use borrow.Author.Needs.{needs}
+use Rattle.identify.proofs.Answers.{says-then, says-nothing, location-accepted, location-digest, location-refused}
 use Rattle.identify.proofs.location.location_identifier.Statement.{statement}
 use Rattle.identify.proofs.location.location_identifier.Tie as tie
 

@@ -3,11 +3,11 @@ use native.Mathlib.Omega.{arith}
 use mathlib.Core.Path.{_≡_, _∙_, sym}
 use lib.ListN.{length}
 use borrow.Author.Tests.{ltb-false}
-use Rattle.identify.specs.Identifiers.{locationIdentifier}
+use borrow.Author.Needs.{needs}
 use Rattle.digest.specs.Identifier.{sha512t24u}
+use Rattle.identify.specs.Identifiers.{locationIdentifier}
 use Rattle.identify.proofs.Hashing.{length-location-identifier}
 use Rattle.identify.proofs.Answers.{says-short, says-as}
-use borrow.Author.Needs.{needs}
 use Rattle.identify.proofs.location.write_identifier.Statement.{statement}
 use Rattle.identify.proofs.location.write_identifier.Tie as tie
 

@@ -1,15 +1,15 @@
 -- The text is laid over the output's tail, where there is room.
-use native.Mathlib.Omega.{arith}
-use mathlib.Core.Path.{_≡_, _∙_, sym, ap}
 use Prim.Native.Nat.{_+_, _-_, _≤_}
+use native.Mathlib.Omega.{arith}
+use mathlib.Core.Path.{_≡_, _∙_, sym}
 use lib.ListN.{length, take, drop}
+use borrow.Author.Needs.{needs}
+use Rattle.refusal.proofs.Sum.{place-within, tail-room}
 use Rattle.text.specs.Decimal.{decimal}
 use Rattle.text.specs.Layout.{locationText}
-use Rattle.refusal.proofs.Sum.{place-within, tail-room}
 use Rattle.text.proofs.Digits.{decimal-within}
 use Rattle.identify.proofs.Hashing.{location-long}
 use Rattle.identify.proofs.Answers.{says-short, says-tail}
-use borrow.Author.Needs.{needs}
 use Rattle.identify.proofs.location.write_text.Statement.{statement}
 use Rattle.identify.proofs.location.write_text.Tie as tie
 

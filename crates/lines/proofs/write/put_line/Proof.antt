@@ -1,9 +1,9 @@
--- The front, the stretches in a tail that comes back, and the line feed.
+-- The front, the three stretches, and the line feed.
 use native.Mathlib.Omega.{arith}
-use mathlib.Core.List.{_++_}
 use lib.ListN.{length-append, length-set}
 use borrow.Author.Needs.{needs}
-use Rattle.lines.proofs.Laying.{puts-none, puts-whole, front-then}
+use Rattle.stretch.proofs.Wrote.{wrote-then, wrote-byte}
+use Rattle.lines.proofs.Laying.{puts-none, puts-whole}
 use Rattle.lines.proofs.write.put_line.Statement.{statement}
 use Rattle.lines.proofs.write.put_line.Tie as tie
 
@@ -25,23 +25,17 @@ refuse-requires c κs = search needs
 returns : tie.Need-returns
 returns c = puts-none _ _ _ _ (omega arith) (c .refuse .ensures) (simp length-append (omega arith))
 
-copy-requires : tie.Need-copy-requires
-copy-requires c κs = search needs
-
-sub-put-three : tie.Need-sub-put-three
-sub-put-three c = search needs
-
-part-put-three-start : tie.Need-part-put-three-start
-part-put-three-start c = search needs
-
-part-put-three-end : tie.Need-part-put-three-end
-part-put-three-end c = search needs
+put-requires : tie.Need-put-requires
+put-requires c κs = search needs
 
 put-three-requires : tie.Need-put-three-requires
 put-three-requires c κs = search needs
 
 slice-write-out : tie.Need-slice-write-out
-slice-write-out c = search needs
+slice-write-out c = let t = c .before .before in
+    let next = simp length-append at (t .put-three .ensures .next) in
+    let p = t .before .before .before .before in
+    omega (arith, next, t .put-three .kept .0, p .put .ensures .next, p .put .kept .0, p .before .before .if1 .left)
 
 add-t25 : tie.Need-add-t25
 add-t25 c = search needs
@@ -50,10 +44,11 @@ same-length : tie.Need-same-length
 same-length c = simp length-set (search needs)
 
 returns-2 : tie.Need-returns-2
-returns-2 c = let s = c .before .before .before .before .before .before .before .before .before .before .before .before .before .before in
-    let t = s .args .a .now ++ (s .args .b .now ++ s .args .c .now) in
-    puts-whole _ _ _ _ (simp length-append (omega arith)) (simp length-append (omega arith))
-    (rw (c .before .before .put-three .ensures .laid, c .before .before .before .before .before .before .copy .ensures) (front-then (s .args .out .now) (s .args .front .now) t 10 _ (simp length-append (omega arith)) (omega arith)))
+returns-2 c =
+    let t = c .before .before in
+    let p = t .before .before .before .before in
+    let behind = wrote-byte _ _ _ _ _ 10 (p .put .ensures .room) (t .put-three .ensures) (slice-write-out c) in
+    puts-whole _ _ _ _ (simp length-append (omega arith)) (simp length-append (omega arith)) (wrote-then _ 0 _ _ _ _ _ _ (omega arith) (p .put .ensures) behind .laid)
 
 pub put-line-spec : {M : Type 1} → statement M
 put-line-spec =
@@ -65,10 +60,7 @@ put-line-spec =
     add-refuse
     refuse-requires
     returns
-    copy-requires
-    sub-put-three
-    part-put-three-start
-    part-put-three-end
+    put-requires
     put-three-requires
     slice-write-out
     add-t25

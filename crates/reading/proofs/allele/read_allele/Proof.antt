@@ -30,8 +30,8 @@ slice-aggregate-past-word-3 c = search needs
 past-word-requires-3 : tie.Need-past-word-requires-3
 past-word-requires-3 c κs = search needs
 
-sub-t23 : tie.Need-sub-t23
-sub-t23 c = search needs
+sub-length : tie.Need-sub-length
+sub-length c = search needs
 
 returns : tie.Need-returns
 returns c =
@@ -69,7 +69,7 @@ read-allele-spec =
     past-letters-requires
     slice-aggregate-past-word-3
     past-word-requires-3
-    sub-t23
+    sub-length
     returns
     refuse-requires
     returns-2)

@@ -1,8 +1,8 @@
 -- A decimal in a tail that comes back.
 use native.Mathlib.Omega.{arith}
+use borrow.Author.Needs.{needs}
 use Rattle.stretch.proofs.Wrote.{wrote}
 use Rattle.stretch.proofs.Over.{over-tail-front}
-use borrow.Author.Needs.{needs}
 use Rattle.text.proofs.layout.put_decimal.Statement.{statement}
 use Rattle.text.proofs.layout.put_decimal.Tie as tie
 

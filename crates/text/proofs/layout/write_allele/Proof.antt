@@ -1,9 +1,9 @@
 -- Three writes in a row.
 use native.Mathlib.Omega.{arith}
 use lib.ListN.{length-append}
+use borrow.Author.Needs.{needs}
 use Rattle.stretch.proofs.Wrote.{wrote-then}
 use Rattle.text.proofs.Layouts.{allele-pieces}
-use borrow.Author.Needs.{needs}
 use Rattle.text.proofs.layout.write_allele.Statement.{statement}
 use Rattle.text.proofs.layout.write_allele.Tie as tie
 

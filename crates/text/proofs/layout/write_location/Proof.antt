@@ -1,8 +1,8 @@
 -- Five writes in a row.
 use native.Mathlib.Omega.{arith}
+use borrow.Author.Needs.{needs}
 use Rattle.stretch.proofs.Wrote.{wrote-then}
 use Rattle.text.specs.Layout.{locationText}
-use borrow.Author.Needs.{needs}
 use Rattle.text.proofs.layout.write_location.Statement.{statement}
 use Rattle.text.proofs.layout.write_location.Tie as tie
 

@@ -1,7 +1,7 @@
 -- Each arm is the definition's case.
 use borrow.Author.Needs.{needs}
-use Rattle.fearnavult.proofs.flat_form.Statement.{statement}
-use Rattle.fearnavult.proofs.flat_form.Tie as tie
+use Rattle.fearnavult.proofs.written.flat_form.Statement.{statement}
+use Rattle.fearnavult.proofs.written.flat_form.Tie as tie
 
 enum-known-a : tie.Need-enum-known-a
 enum-known-a c = search needs

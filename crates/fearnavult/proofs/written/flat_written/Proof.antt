@@ -1,7 +1,7 @@
 -- Each arm is the definition's case.
 use borrow.Author.Needs.{needs}
-use Rattle.fearnavult.proofs.flat_written.Statement.{statement}
-use Rattle.fearnavult.proofs.flat_written.Tie as tie
+use Rattle.fearnavult.proofs.written.flat_written.Statement.{statement}
+use Rattle.fearnavult.proofs.written.flat_written.Tie as tie
 
 enum-known-w : tie.Need-enum-known-w
 enum-known-w c = search needs
