@@ -56,24 +56,27 @@ pub location-long : (start end : ℕ) (digest : List ℕ) → length digest ≡ 
 location-long start end digest e = omega (arith, length-location start end digest)
 
 -- an allele text as long as the code counts it, and the room for its pieces in a tail that is lent
-module _ (r : List ℕ) (start end : ℕ) (x : List ℕ) (w : Stretches) (f : Fits r start end x w) where
-  pub allele-long : (digest : List ℕ) → start - w .left + (w .to - w .from) + (w .right - end) + 110 ≡ length (textOf (formIn r start end x w) digest)
+module _ (r : List ℕ) (start end : ℕ) (x : List ℕ) (w : Stretches) (f : Fits r start end x w) (n : ℕ) (sum : n ≡ start - w .left + (w .to - w .from) + (w .right - end)) where
+  long : n ≡ length (joinedStretches r start end x w)
+  long = sum ∙ length-joined r start end x w f
+
+  pub allele-long : (digest : List ℕ) → n + 110 ≡ length (textOf (formIn r start end x w) digest)
   unfolding textOf
   allele-long digest =
       let location = sha512t24u (locationText (w .start) (w .end) digest) in
-      omega (arith, length-joined r start end x w f, length-allele location (joinedStretches r start end x w), length-sha512t24u (locationText (w .start) (w .end) digest))
+      omega (arith, long, length-allele location (joinedStretches r start end x w), length-sha512t24u (locationText (w .start) (w .end) digest))
 
-  pub allele-room : (location out : List ℕ) (place : ℕ) → length location ≡ 32 → ltb (length out) (place + (start - w .left + (w .to - w .from) + (w .right - end) + 110)) ≡ false
+  pub allele-room : (location out : List ℕ) (place : ℕ) → length location ≡ 32 → ltb (length out) (place + (n + 110)) ≡ false
       → length location + (length (part r (w .left) start) + (length (part x (w .from) (w .to)) + (length (part r end (w .right)) + 78))) ≤ length (take (length out - place) (drop place out))
   unfolding joinedStretches
   allele-room location out place e t =
       let a = length (part r (w .left) start) in
       let b = length (part x (w .from) (w .to)) in
       let c = length (part r end (w .right)) in
-      let sum : a + (b + c) ≡ start - w .left + (w .to - w .from) + (w .right - end)
-      = sym (length-joined r start end x w f ∙ length-append (part r (w .left) start) (part x (w .from) (w .to) ++ part r end (w .right))
+      let pieces : a + (b + c) ≡ n
+      = sym (long ∙ length-append (part r (w .left) start) (part x (w .from) (w .to) ++ part r end (w .right))
       ∙ ap (λ (k : ℕ). a + k) (length-append (part x (w .from) (w .to)) (part r end (w .right)))) in
-      added (length location) a b c (start - w .left + (w .to - w .from) + (w .right - end)) (length (take (length out - place) (drop place out))) e sum (tail-room out place _ t)
+      added (length location) a b c n (length (take (length out - place) (drop place out))) e pieces (tail-room out place (n + 110) t)
     where
       added : (l a b c n room : ℕ) → l ≡ 32 → a + (b + c) ≡ n → n + 110 ≤ room → l + (a + (b + (c + 78))) ≤ room
       added l a b c n room e s h = omega arith

@@ -6,6 +6,7 @@ use letters::check_digest_text;
 use normal::Located;
 use normal::Stretches;
 use normal::clean;
+use normal::joined_length;
 use normal::locate;
 use refusal::OUTPUT_TOO_SHORT;
 use refusal::Outcome;
@@ -24,6 +25,9 @@ const ALLELE_PREFIX: [u8; 9] = *b"ga4gh:VA.";
 
 // The prefix and 32 characters.
 const IDENTIFIER_LENGTH: u64 = 41;
+
+// The bytes of an allele text around its sequence: its words, and the location's digest.
+const AROUND_SEQUENCE: usize = 110;
 
 // 7, then 5.
 fn check_rest(
@@ -85,7 +89,7 @@ fn write_text(
     let from = w.from;
     let to = w.to;
     let right = w.right;
-    let length = (start - left + (to - from) + (right - end) + 110) as u64;
+    let length = (joined_length(start, end, w) + AROUND_SEQUENCE) as u64;
     if sum_exceeds(place, length, out.len() as u64) {
         return Written::Refused(refuse(OUTPUT_TOO_SHORT, length));
     }

@@ -25,6 +25,9 @@ const LOCATION_PREFIX: [u8; 10] = *b"ga4gh:VSL.";
 // The prefix and 32 characters.
 const IDENTIFIER_LENGTH: u64 = 42;
 
+// The bytes of a location text around its numbers: its words, and the sequence's digest.
+const AROUND_NUMBERS: usize = 129;
+
 // 1, 2, 3, 7.
 fn check_location(residues: u64, start: u64, end: u64, digest: &[u8]) -> Outcome
     ensures { λ r. ⌜ r ≡ locationAnswer residues start end (now (digest .entry)) ⌝ }
@@ -46,7 +49,7 @@ fn write_text(start: u64, end: u64, digest: &[u8], out: &mut [u8], place: u64) -
     requires { ⌜ length (now digest) ≡ 32 ⌝ }
     ensures { λ r. ⌜ Says [] (locationText start end (now (digest .entry))) (now (out .entry)) place r (now (out .exit)) ⌝ }
 {
-    let length = (decimal_length(start) + decimal_length(end) + 129) as u64;
+    let length = (decimal_length(start) + decimal_length(end) + AROUND_NUMBERS) as u64;
     if sum_exceeds(place, length, out.len() as u64) {
         return Written::Refused(refuse(OUTPUT_TOO_SHORT, length));
     }

@@ -24,7 +24,7 @@ use Rattle.text.specs.Number.{numberOf}
 use Rattle.text.proofs.Digits.{decimal-within}
 use Rattle.lines.specs.Cut.{parted, onFirst}
 use Rattle.lines.specs.Said.{Said, unread, allele, space, replacementOf, numbered, saidBy, said}
-use Rattle.lines.specs.Answers.{shown, formText, verdictText, saidText, answerLine}
+use Rattle.lines.specs.Answers.{shown, formReply, verdictText, saidText, answerLine}
 use Rattle.lines.proofs.Laying.{word-short}
 
 -- no piece is longer than the text
@@ -81,7 +81,7 @@ shown-short : (x : List ℕ) → length (shown x) ≤ length x + 1
 shown-short [] = omega arith
 shown-short (c ∷ x) = omega arith
 
-form-short : (f : Normal) → f .start < 2 ^ 64 → f .end < 2 ^ 64 → length (formText f) ≤ 56 + length (f .replacement)
+form-short : (f : Normal) → f .start < 2 ^ 64 → f .end < 2 ^ 64 → length (formReply f) ≤ 56 + length (f .replacement)
 form-short f h g = simp length-append (omega (arith, decimal-within (f .start) h, decimal-within (f .end) g, word-short (f .kind), shown-short (f .replacement)))
 
 module _ (r : List ℕ) (start end : ℕ) (x : List ℕ) where

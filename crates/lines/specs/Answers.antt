@@ -27,20 +27,20 @@ abbrev pub shown : List ℕ → List ℕ
 shown [] = ascii "."
 shown (c ∷ x) = c ∷ x
 
-abbrev pub formText : Normal → List ℕ
-formText f = decimal (f .start) ++ (space ∷ (decimal (f .end) ++ (space ∷ (word (f .kind) ++ (space ∷ shown (f .replacement))))))
+abbrev pub formReply : Normal → List ℕ
+formReply f = decimal (f .start) ++ (space ∷ (decimal (f .end) ++ (space ∷ (word (f .kind) ++ (space ∷ shown (f .replacement))))))
 
 -- a refusal's number, or the normal form
 abbrev pub verdictText : Verdict → Normal → List ℕ
 verdictText (refused q) f = ascii "refused " ++ decimal (q .number)
-verdictText accepted f = formText f
+verdictText accepted f = formReply f
 
-abbrev pub alleleText : List ℕ → ℕ → ℕ → List ℕ → List ℕ
-alleleText r start end x = verdictText (verdict (formGrounds r start end x)) (normal r start end x)
+abbrev pub alleleReply : List ℕ → ℕ → ℕ → List ℕ → List ℕ
+alleleReply r start end x = verdictText (verdict (formGrounds r start end x)) (normal r start end x)
 
 abbrev pub saidText : List ℕ → Said → List ℕ
 saidText r unread = ascii "unread"
-saidText r (allele start end x) = alleleText r start end x
+saidText r (allele start end x) = alleleReply r start end x
 
 -- the line that answers a line
 unfoldable pub answerLine : List ℕ → List ℕ → List ℕ

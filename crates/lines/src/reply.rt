@@ -7,6 +7,7 @@ use super::write::write_head;
 use super::write::write_refused;
 use normal::Located;
 use normal::Stretches;
+use normal::joined_length;
 use normal::locate_clean;
 use refusal::Written;
 ghost use mathlib.Core.List.{_++_, _∷_, []};
@@ -14,7 +15,7 @@ ghost use Prim.Native.Nat.{_≤_};
 ghost use lib.ListN.{length};
 ghost use Rattle.stretch.specs.Over.{Wrote};
 ghost use Rattle.normal.specs.Stretches.{Fits, formIn};
-ghost use Rattle.lines.specs.Answers.{lineFeed, formText, alleleText, answerLine, Puts};
+ghost use Rattle.lines.specs.Answers.{lineFeed, formReply, alleleReply, answerLine, Puts};
 ghost use Rattle.lines.specs.Parts.{head, refusedLine, stop};
 
 // The front of a form whose replacement has so many letters.
@@ -38,14 +39,14 @@ fn answer_form(
     out: &mut [u8],
 ) -> Written
     requires { ⌜ Fits (now reference) start end (now replacement) w ⌝ }
-    ensures { λ r. ⌜ Puts (formText (formIn (now (reference .entry)) start end (now (replacement .entry)) w) ++ (lineFeed ∷ [])) (now (out .entry)) r (now (out .exit)) ⌝ }
+    ensures { λ r. ⌜ Puts (formReply (formIn (now (reference .entry)) start end (now (replacement .entry)) w) ++ (lineFeed ∷ [])) (now (out .entry)) r (now (out .exit)) ⌝ }
 {
     let left = w.left;
     let from = w.from;
     let to = w.to;
     let right = w.right;
     let mut front = [0u8; 64];
-    let n = form_head(&mut front, w, start - left + (to - from) + (right - end));
+    let n = form_head(&mut front, w, joined_length(start, end, w));
     put_line(
         out,
         &front[0..n],
@@ -70,7 +71,7 @@ fn answer_allele(
     replacement: &[u8],
     out: &mut [u8],
 ) -> Written
-    ensures { λ r. ⌜ Puts (alleleText (now (reference .entry)) start end (now (replacement .entry)) ++ (lineFeed ∷ [])) (now (out .entry)) r (now (out .exit)) ⌝ }
+    ensures { λ r. ⌜ Puts (alleleReply (now (reference .entry)) start end (now (replacement .entry)) ++ (lineFeed ∷ [])) (now (out .entry)) r (now (out .exit)) ⌝ }
 {
     let found = locate_clean(reference, start, end, replacement);
     match found {

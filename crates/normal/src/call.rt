@@ -5,6 +5,7 @@ use super::Normalised;
 use super::Stretches;
 use super::engine::normalise;
 use super::three::first_foreign_of;
+use super::three::joined_length;
 use letters::first_foreign;
 use refusal::END_ABOVE_REFERENCE;
 use refusal::FOREIGN_BYTE;
@@ -64,7 +65,7 @@ pub fn clean(
         &replacement[from..to],
         &reference[end..right],
     );
-    if first < start - left + (to - from) + (right - end) {
+    if first < joined_length(start, end, w) {
         return Located::Refused(refuse(FOREIGN_NORMAL_BYTE, first as u64));
     }
     Located::Accepted(w)
@@ -87,7 +88,7 @@ fn write(
     let from = w.from;
     let to = w.to;
     let right = w.right;
-    let length = (start - left + (to - from) + (right - end)) as u64;
+    let length = joined_length(start, end, w) as u64;
     if sum_exceeds(place, length, out.len() as u64) {
         return Normalised::Refused(refuse(OUTPUT_TOO_SHORT, length));
     }

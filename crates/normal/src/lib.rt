@@ -13,6 +13,7 @@ pub use call::locate;
 pub use call::locate_clean;
 pub use call::normal_form;
 pub use three::first_foreign_of;
+pub use three::joined_length;
 
 pub enum Kind {
     Unchanged,

@@ -2,6 +2,7 @@
 use super::AlleleParts;
 use super::AlleleRead;
 use super::Walk;
+use super::words::DIGEST_LENGTH;
 use super::words::past_digest;
 use super::words::past_letters;
 use super::words::past_word;
@@ -41,7 +42,7 @@ pub fn location_of(text: &[u8]) -> &[u8]
     match read_allele(text) {
         AlleleRead::Accepted(parts) => {
             let from = parts.location as usize;
-            &text[from..from + 32]
+            &text[from..from + DIGEST_LENGTH]
         }
         AlleleRead::Refused(_) => &text[0..0],
     }

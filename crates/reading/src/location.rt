@@ -2,6 +2,7 @@
 use super::LocationParts;
 use super::LocationRead;
 use super::Walk;
+use super::words::DIGEST_LENGTH;
 use super::words::past_decimal;
 use super::words::past_digest;
 use super::words::past_word;
@@ -43,7 +44,7 @@ pub fn digest_of(text: &[u8]) -> &[u8]
     match read_location(text) {
         LocationRead::Accepted(location) => {
             let from = location.digest as usize;
-            &text[from..from + 32]
+            &text[from..from + DIGEST_LENGTH]
         }
         LocationRead::Refused(_) => &text[0..0],
     }

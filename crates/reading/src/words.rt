@@ -12,7 +12,7 @@ ghost use Rattle.refusal.specs.Limits.{referenceLimit};
 ghost use Rattle.reading.specs.Accepted.{Digest, Letters};
 ghost use Rattle.reading.specs.Walk.{Word, Onward, Numbers, Counts};
 
-const DIGEST_LENGTH: usize = 32;
+pub const DIGEST_LENGTH: usize = 32;
 
 // Digits that begin a text: how many, and their number.
 pub struct Leading {

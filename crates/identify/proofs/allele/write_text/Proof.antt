@@ -10,23 +10,11 @@ use Rattle.identify.proofs.Answers.{says-short, says-tail}
 use Rattle.identify.proofs.allele.write_text.Statement.{statement}
 use Rattle.identify.proofs.allele.write_text.Tie as tie
 
-sub-length : tie.Need-sub-length
-sub-length c = search needs
-
-sub-length-2 : tie.Need-sub-length-2
-sub-length-2 c = search needs
+joined-length-requires : tie.Need-joined-length-requires
+joined-length-requires c κs = search needs
 
 add-length : tie.Need-add-length
 add-length c = search needs
-
-sub-length-3 : tie.Need-sub-length-3
-sub-length-3 c = search needs
-
-add-length-2 : tie.Need-add-length-2
-add-length-2 c = search needs
-
-add-length-3 : tie.Need-add-length-3
-add-length-3 c = search needs
 
 sum-exceeds-requires : tie.Need-sum-exceeds-requires
 sum-exceeds-requires c κs = search needs
@@ -35,8 +23,10 @@ refuse-requires : tie.Need-refuse-requires
 refuse-requires c κs = search needs
 
 returns : tie.Need-returns
-returns c = let s = c .before .before .before .before .before .before .before in
-    says-short _ _ _ _ (allele-long _ _ _ _ (s .args .w) (s .pre .0) _) _ (rw (c .refuse .ensures)) (sym (c .before .before .sum-exceeds .ensures) ∙ c .before .if1 .taken)
+returns c =
+    let l = c .before .before .before in
+    let s = l .before .before .before .before .before in
+    says-short _ _ _ _ (allele-long _ _ _ _ (s .args .w) (s .pre .0) _ (l .joined-length .ensures) _) _ (rw (c .refuse .ensures)) (sym (c .before .before .sum-exceeds .ensures) ∙ c .before .if1 .taken)
 
 location-digest-requires : tie.Need-location-digest-requires
 location-digest-requires c κs = search needs
@@ -83,9 +73,10 @@ part-write-allele-end-4 c = search needs
 write-allele-requires : tie.Need-write-allele-requires
 write-allele-requires c κs =
     let d = c .before .before .before .before .before in
-    let s = d .before .before .before .before .before .before .before in
+    let l = d .before .before .before in
+    let s = l .before .before .before .before .before in
     let long : length (d .location-digest .result) ≡ 32 = search needs in
-    allele-room _ _ _ _ (s .args .w) (s .pre .0) (d .location-digest .result) (s .args .out .now) (s .args .place) long (sym (d .before .before .sum-exceeds .ensures) ∙ d .before .if1 .left)
+    allele-room _ _ _ _ (s .args .w) (s .pre .0) _ (l .joined-length .ensures) (d .location-digest .result) (s .args .out .now) (s .args .place) long (sym (d .before .before .sum-exceeds .ensures) ∙ d .before .if1 .left)
 
 same-length : tie.Need-same-length
 same-length c = search needs
@@ -94,21 +85,18 @@ returns-2 : tie.Need-returns-2
 unfolding textOf joined
 returns-2 c =
     let d = c .before .before .before .before .before .before .before .before in
-    let s = d .before .before .before .before .before .before .before in
+    let l = d .before .before .before in
+    let s = l .before .before .before .before .before in
     let t = sym (d .before .before .sum-exceeds .ensures) ∙ d .before .if1 .left in
-    let long = allele-long _ _ _ _ (s .args .w) (s .pre .0) (s .args .digest .now) in
+    let long = allele-long _ _ _ _ (s .args .w) (s .pre .0) _ (l .joined-length .ensures) (s .args .digest .now) in
     says-tail _ _ _ _ long (c .before .before .write-allele .last .0) t (rw (← d .location-digest .ensures) (c .before .before .write-allele .ensures .laid))
 
 pub write-text-spec : {M : Type 1} → statement M
 write-text-spec =
     tie.close
     (tie.spec
-    sub-length
-    sub-length-2
+    joined-length-requires
     add-length
-    sub-length-3
-    add-length-2
-    add-length-3
     sum-exceeds-requires
     refuse-requires
     returns

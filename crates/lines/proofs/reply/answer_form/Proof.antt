@@ -1,6 +1,5 @@
 -- The front is written apart, and laid before the stretches.
 use Prim.Native.Nat.{ℕ}
-use native.Mathlib.Omega.{arith}
 use mathlib.Core.Path.{_∙_, sym, ap}
 use mathlib.Core.List.{List, [], _∷_, _++_}
 use borrow.Author.Needs.{needs}
@@ -8,27 +7,15 @@ use Rattle.stretch.proofs.Wrote.{wrote-front}
 use Rattle.normal.proofs.Answers.{length-joined}
 use Rattle.normal.specs.Stretches.{joined}
 use Rattle.lines.proofs.Laying.{puts-as}
-use Rattle.lines.proofs.Replies.{part-le, form-line}
+use Rattle.lines.proofs.Replies.{form-line}
 use Rattle.lines.proofs.reply.answer_form.Statement.{statement}
 use Rattle.lines.proofs.reply.answer_form.Tie as tie
 
 slice-aggregate-form-head : tie.Need-slice-aggregate-form-head
 slice-aggregate-form-head c = search needs
 
-sub-form-head : tie.Need-sub-form-head
-sub-form-head c = search needs
-
-sub-form-head-2 : tie.Need-sub-form-head-2
-sub-form-head-2 c = search needs
-
-add-form-head : tie.Need-add-form-head
-add-form-head c = search needs
-
-sub-form-head-3 : tie.Need-sub-form-head-3
-sub-form-head-3 c = search needs
-
-add-form-head-2 : tie.Need-add-form-head-2
-add-form-head-2 c = search needs
+joined-length-requires : tie.Need-joined-length-requires
+joined-length-requires c κs = search needs
 
 form-head-requires : tie.Need-form-head-requires
 form-head-requires c κs = search needs
@@ -40,7 +27,7 @@ part-put-line-start : tie.Need-part-put-line-start
 part-put-line-start c = search needs
 
 part-put-line-end : tie.Need-part-put-line-end
-part-put-line-end c = c .before .before .before .form-head .ensures .room
+part-put-line-end c = search needs
 
 sub-put-line-2 : tie.Need-sub-put-line-2
 sub-put-line-2 c = search needs
@@ -70,34 +57,22 @@ part-put-line-end-4 : tie.Need-part-put-line-end-4
 part-put-line-end-4 c = search needs
 
 put-line-requires : tie.Need-put-line-requires
-put-line-requires c κs = let d = c .before .before .before .before .before .before .before in
-    let s = d .before .before .before .before .before in
-    let r = s .args .reference .now in
-    let x = s .args .replacement .now in
-    let w = s .args .w in
-    omega (
-      arith,
-      part-le r (w .left) (s .args .start),
-      part-le x (w .from) (w .to),
-      part-le r (s .args .end) (w .right),
-      part-le (d .form-head .last .0) 0 (d .form-head .result),
-      d .form-head .kept .0,
-      s .pre .allele .reference,
-      s .pre .allele .replacement,
-    )
+put-line-requires c κs = search needs
 
 same-length : tie.Need-same-length
 same-length c = search needs
 
 returns : tie.Need-returns
 unfolding joined
-returns c = let d = c .before .before .before .before .before .before .before .before .before .before in
-    let s = d .before .before .before .before .before in
+returns c =
+    let d = c .before .before .before .before .before .before .before .before .before .before in
+    let l = d .before in
+    let s = l .before .before .before .before .before in
     let w = s .args .w in
     let r = s .args .reference .now in
     let x = s .args .replacement .now in
     puts-as _ _ _ _ _
-    (form-line (w .kind) (w .start) (w .end) (joined r (s .args .start) (s .args .end) x w) _ (length-joined r (s .args .start) (s .args .end) x w (s .pre))
+    (form-line (w .kind) (w .start) (w .end) (joined r (s .args .start) (s .args .end) x w) _ (l .joined-length .ensures ∙ length-joined r (s .args .start) (s .args .end) x w (s .pre))
     ∙ ap (λ (h : List ℕ). h ++ (joined r (s .args .start) (s .args .end) x w ++ (10 ∷ []))) (sym (wrote-front _ _ _ _ (d .form-head .ensures))))
     (c .before .before .put-line .ensures)
 
@@ -106,11 +81,7 @@ answer-form-spec =
     tie.close
     (tie.spec
     slice-aggregate-form-head
-    sub-form-head
-    sub-form-head-2
-    add-form-head
-    sub-form-head-3
-    add-form-head-2
+    joined-length-requires
     form-head-requires
     sub-put-line
     part-put-line-start

@@ -1,5 +1,4 @@
 -- A stretch with a foreign byte is refused, by the length of the joined text.
-use mathlib.Core.Path.{refl}
 use borrow.Author.Needs.{needs}
 use Rattle.normal.specs.Stretches.{joined}
 use Rattle.normal.proofs.Answers.{clean-refuses, clean-accepts}
@@ -36,20 +35,8 @@ part-first-foreign-of-end-3 c = search needs
 first-foreign-of-requires : tie.Need-first-foreign-of-requires
 first-foreign-of-requires c κs = search needs
 
-sub-if1 : tie.Need-sub-if1
-sub-if1 c = search needs
-
-sub-if1-2 : tie.Need-sub-if1-2
-sub-if1-2 c = search needs
-
-add-if1 : tie.Need-add-if1
-add-if1 c = search needs
-
-sub-if1-3 : tie.Need-sub-if1-3
-sub-if1-3 c = search needs
-
-add-if1-2 : tie.Need-add-if1-2
-add-if1-2 c = search needs
+joined-length-requires : tie.Need-joined-length-requires
+joined-length-requires c κs = search needs
 
 refuse-requires : tie.Need-refuse-requires
 refuse-requires c κs = search needs
@@ -57,16 +44,18 @@ refuse-requires c κs = search needs
 returns : tie.Need-returns
 unfolding joined
 returns c =
-    let b = c .before .before in
+    let l = c .before .before in
+    let b = l .before in
     let s = b .before .before .before .before .before .before in
-    rw (c .refuse .ensures) (clean-refuses _ _ _ _ (s .args .w) (s .pre) _ refl _ (b .first-foreign-of .ensures) (c .before .if1 .taken))
+    rw (c .refuse .ensures) (clean-refuses _ _ _ _ (s .args .w) (s .pre) _ (l .joined-length .ensures) _ (b .first-foreign-of .ensures) (c .before .if1 .taken))
 
 returns-2 : tie.Need-returns-2
 unfolding joined
 returns-2 c =
-    let b = c .before in
+    let l = c .before in
+    let b = l .before in
     let s = b .before .before .before .before .before .before in
-    clean-accepts _ _ _ _ (s .args .w) (s .pre) _ refl (rw (b .first-foreign-of .ensures) at (c .if1 .left))
+    clean-accepts _ _ _ _ (s .args .w) (s .pre) _ (l .joined-length .ensures) (rw (b .first-foreign-of .ensures) at (c .if1 .left))
 
 pub clean-spec : {M : Type 1} → statement M
 clean-spec =
@@ -82,11 +71,7 @@ clean-spec =
     part-first-foreign-of-start-3
     part-first-foreign-of-end-3
     first-foreign-of-requires
-    sub-if1
-    sub-if1-2
-    add-if1
-    sub-if1-3
-    add-if1-2
+    joined-length-requires
     refuse-requires
     returns
     returns-2)

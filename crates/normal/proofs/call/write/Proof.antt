@@ -1,6 +1,6 @@
 -- The joined text is laid over the output's tail, where there is room.
 use native.Mathlib.Nat.{zero-add}
-use mathlib.Core.Path.{refl, _∙_, sym}
+use mathlib.Core.Path.{_∙_, sym}
 use borrow.Author.Needs.{needs}
 use Rattle.stretch.proofs.Over.{over-tail-front}
 use Rattle.refusal.proofs.Sum.{place-within}
@@ -9,20 +9,8 @@ use Rattle.normal.proofs.Answers.{lays-nothing, room-left, room-for, la
 use Rattle.normal.proofs.call.write.Statement.{statement}
 use Rattle.normal.proofs.call.write.Tie as tie
 
-sub-length : tie.Need-sub-length
-sub-length c = search needs
-
-sub-length-2 : tie.Need-sub-length-2
-sub-length-2 c = search needs
-
-add-length : tie.Need-add-length
-add-length c = search needs
-
-sub-length-3 : tie.Need-sub-length-3
-sub-length-3 c = search needs
-
-add-length-2 : tie.Need-add-length-2
-add-length-2 c = search needs
+joined-length-requires : tie.Need-joined-length-requires
+joined-length-requires c κs = search needs
 
 sum-exceeds-requires : tie.Need-sum-exceeds-requires
 sum-exceeds-requires c κs = search needs
@@ -32,9 +20,9 @@ refuse-requires c κs = search needs
 
 returns : tie.Need-returns
 returns c =
-    let b = c .before .before in
-    let s = b .before .before .before .before in
-    rw (c .refuse .ensures) (lays-nothing _ _ _ _ (s .args .w) (s .pre) _ refl _ _ (sym (b .sum-exceeds .ensures) ∙ c .before .if1 .taken))
+    let l = c .before .before .before in
+    let s = l .before .before .before .before in
+    rw (c .refuse .ensures) (lays-nothing _ _ _ _ (s .args .w) (s .pre) _ (l .joined-length .ensures) _ _ (sym (c .before .before .sum-exceeds .ensures) ∙ c .before .if1 .taken))
 
 sub-put-three : tie.Need-sub-put-three
 sub-put-three c = place-within _ _ _ (sym (c .before .sum-exceeds .ensures) ∙ c .if1 .left)
@@ -75,8 +63,9 @@ part-put-three-end-4 c = search needs
 put-three-requires : tie.Need-put-three-requires
 put-three-requires c κs =
     let b = c .before .before .before .before in
-    let s = b .before .before .before .before .before in
-    rw zero-add (room-for _ _ _ _ (s .args .w) (s .pre) _ refl (s .args .out .now) (s .args .place) (sym (b .before .sum-exceeds .ensures) ∙ b .if1 .left))
+    let l = b .before .before in
+    let s = l .before .before .before .before in
+    rw zero-add (room-for _ _ _ _ (s .args .w) (s .pre) _ (l .joined-length .ensures) (s .args .out .now) (s .args .place) (sym (b .before .sum-exceeds .ensures) ∙ b .if1 .left))
 
 same-length : tie.Need-same-length
 same-length c = search needs
@@ -86,20 +75,18 @@ unfolding joined
 returns-2 c =
     let k = c .before .before in
     let b = k .before .before .before .before .before in
-    let s = b .before .before .before .before .before in
+    let l = b .before .before in
+    let s = l .before .before .before .before in
+    let e = l .joined-length .ensures in
     let t = sym (b .before .sum-exceeds .ensures) ∙ b .if1 .left in
-    lays-all _ _ _ _ (s .args .w) (s .pre) _ refl _ _ _ t
-    (rw (k .put-three .ensures .laid) (over-tail-front (s .args .out .now) (s .args .place) _ (room-left _ _ _ _ (s .args .w) (s .pre) _ refl (s .args .out .now) (s .args .place) t)))
+    lays-all _ _ _ _ (s .args .w) (s .pre) _ e _ _ _ t
+    (rw (k .put-three .ensures .laid) (over-tail-front (s .args .out .now) (s .args .place) _ (room-left _ _ _ _ (s .args .w) (s .pre) _ e (s .args .out .now) (s .args .place) t)))
 
 pub write-spec : {M : Type 1} → statement M
 write-spec =
     tie.close
     (tie.spec
-    sub-length
-    sub-length-2
-    add-length
-    sub-length-3
-    add-length-2
+    joined-length-requires
     sum-exceeds-requires
     refuse-requires
     returns
