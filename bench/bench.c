@@ -1,36 +1,24 @@
 /*
- * Times ours and the plain C in one run, turn by turn, keeps the best of each, and prints tables. The
- * time is the processor's, so that other programs disturb it less. A ratio is a row's time divided by
- * that of the first row of its table: 1.00 is as fast, more is slower.
+ * Times ours and the plain C in one run, and prints tables.
  *
  * The two arguments are what bench/run has measured, 0 for what it has not: the bytes a second of
  * OpenSSL's SHA-512, and the allele identifiers a second of the second program.
  */
 #include "fearnavult.h"
 #include "plain.h"
+#include "register.h"
+#include "tables.h"
 
 /* Of the C library, whose headers are not everywhere. */
-struct timespec {
-    long seconds, nanoseconds;
-};
-int clock_gettime(int clock, struct timespec *now);
 int printf(const char *format, ...);
 double atof(const char *text);
 void *memcpy(void *to, const void *from, size_t count);
 void *memset(void *at, int byte, size_t count);
-_Noreturn void exit(int status);
 
-enum { CLOCK_PROCESS_CPUTIME_ID = 2, TURNS = 5 };
 enum { MEGABYTES = 64, BYTES = MEGABYTES << 20 };
 enum { SHORT = 10 * 1000, LONG = 10 * 1000 * 1000, FORMS = 100 * 1000 };
 enum { LONGEST_ROLL = 100 * 1000, ROLLED = 20 * 1000 * 1000 };
 enum { ROUNDS = 10 * 1000, IDENTIFIERS = 3 * ROUNDS };
-
-typedef struct {
-    const char *name;
-    void (*work)(void);
-    double best; /* nanoseconds */
-} row;
 
 static uint8_t twice[2 * BYTES]; /* the same random residues two times */
 static uint8_t short_reference[SHORT], long_reference[LONG], same[LONG];
@@ -38,19 +26,6 @@ static uint8_t out[LONGEST_ROLL], digest[64];
 static const uint8_t nothing[1];
 static const uint8_t repeat[] = "TCAGCAGCAGT", repeat_digest[] = "zR7HujP8jYfpROv-hBLZMHuR_5P4Zo0q";
 static size_t found;
-
-static double now(void) {
-    struct timespec t;
-    clock_gettime(CLOCK_PROCESS_CPUTIME_ID, &t);
-    return (double)t.seconds * 1e9 + (double)t.nanoseconds;
-}
-
-/* A time is worth nothing where the work was not the work that its row names. */
-static void hold(int as_expected) {
-    if (as_expected) return;
-    printf("bench: an answer is not the one expected\n");
-    exit(1);
-}
 
 /* The identifier of 64 MB, and its two halves in plain C. */
 static void identifier(void) { hold(fv_sequence_identifier(twice, BYTES, out, 41, 0).length == 41); }
@@ -125,31 +100,6 @@ static void plain_long_roll(void) {
 }
 static void plain_long_test(void) { hold(plain_letters(same, LONG) == LONG); }
 
-static void show(const char *name, double took, double first) {
-    printf("%-46s %9.1f ms %8.2f\n", name, took / 1e6, took / first);
-}
-
-static void table(const char *title, row *rows, int count) {
-    for (int turn = 0; turn < TURNS; turn++)
-        for (int i = 0; i < count; i++) {
-            double began = now();
-            rows[i].work();
-            double took = now() - began;
-            if (turn == 0 || took < rows[i].best) rows[i].best = took;
-        }
-    printf("\n%-46s %12s %8s\n", title, "time", "ratio");
-    for (int i = 0; i < count; i++) show(rows[i].name, rows[i].best, rows[0].best);
-}
-#define TABLE(title, rows) table(title, rows, sizeof(rows) / sizeof *(rows))
-
-static void fill(uint8_t *text, size_t length) {
-    uint32_t x = 1;
-    for (size_t i = 0; i < length; i++) {
-        x = x * 1664525 + 1013904223;
-        text[i] = (uint8_t)("ACGT"[x >> 30]);
-    }
-}
-
 int main(int count, char **words) {
     double openssl = count > 1 ? atof(words[1]) : 0, second = count > 2 ? atof(words[2]) : 0;
     fill(twice, BYTES);
@@ -202,5 +152,7 @@ int main(int count, char **words) {
     TABLE("allele identifier, 10 million letters", long_allele);
     show("plain C SHA-512, roll and letter test",
          long_allele[1].best + long_allele[2].best + long_allele[3].best, long_allele[0].best);
+
+    register_tables();
     return 0;
 }

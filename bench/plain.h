@@ -11,3 +11,6 @@ size_t plain_letters(const uint8_t *text, size_t length);
 /* The length of the longest common prefix, and suffix, of two texts of one length. */
 size_t plain_common_prefix(const uint8_t *one, const uint8_t *other, size_t length);
 size_t plain_common_suffix(const uint8_t *one, const uint8_t *other, size_t length);
+
+/* The sum of all bytes: what it takes to read them. */
+uint64_t plain_read(const uint8_t *bytes, size_t length);

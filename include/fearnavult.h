@@ -230,6 +230,144 @@ typedef struct {
  */
 fv_allele fv_read_allele(const uint8_t *text, size_t text_len);
 
+/*
+ * The register: alleles of one reference, each under a number, in an image that the caller lends.
+ *
+ * An image is a buffer of the caller's, who makes it, keeps it between calls and saves it byte for byte.
+ * No call keeps a pointer to it. Numbers in it are 32 bits, unsigned, the least significant byte first,
+ * and are read and written byte by byte, so it needs no alignment. C, J and P are its capacities:
+ *   at 0           the edition, 1
+ *   at 4, 8, 12    C, at most 10,000; how many numbers are issued; where the records begin, 76
+ *   at 16, 20, 24  J, at most 10,000; the journal count; where the journal begins, 76 + 20C
+ *   at 28, 32, 36  P, at most 10,000,000; how much of the pool is used; where the pool begins, 76 + 20C + 4J
+ *   at 40          the length of the reference, at most 1,000,000,000
+ *   at 44 to 75    the digest of the reference, 32 base64url characters
+ * That is 76 + 20C + 4J + P bytes, 10,240,076 at most; the buffer may have more.
+ *
+ * A record is five numbers, 20 bytes: start, end, the offset of the replacement in the pool, its length,
+ * and the status, 1 active or 0 inactive. Record i, from 1, begins at 76 + 20 (i - 1). A journal entry is
+ * the number that a change was about, 4 bytes. The pool has the replacements, one behind the other.
+ *
+ * An image is well formed where its header is as above, no count is above its capacity, and the buffer
+ * reaches to the end of the pool; where each record issued has start <= end <= the reference's length,
+ * status 0 or 1, an offset that is the sum of the lengths before it, and residues only; where these
+ * lengths together are the pool used; and where each journal entry counted is from 1 to the numbers
+ * issued. Slots not issued, room not used and bytes behind the image may hold anything. Every call but
+ * fv_blank makes this test first, so that no image, however damaged, makes it fault.
+ */
+
+/* The answer of a call that is accepted or refused, and tells nothing else. */
+typedef struct {
+    uint64_t refusal;
+    uint64_t value;
+} fv_outcome;
+
+/*
+ * Makes a register without numbers at the front of `image`: for a reference of so many residues that has
+ * this digest (32 base64url characters, without `ga4gh:SQ.` before them), with C `records`, J `journal`
+ * and P `pool`. The 76 bytes of the header are written, over whatever stood there, a register too; the
+ * bytes behind them stay as they were.
+ *
+ * Accepted: { 0, 0 }. Refused, in this order:
+ *   1, value 0    residues is over 1,000,000,000;
+ *   7, value 32   the digest has not 32 bytes;
+ *   7, value i    digest[i] is not a base64url character, and every byte before it is one;
+ *   9, value 0    records or journal is over 10,000, or pool is over 10,000,000;
+ *   9, value s    the image needs s bytes, 76 + 20 records + 4 journal + pool, and image_len is less.
+ * No number is too large to be refused so.
+ *
+ * With 11 residues, the digest of `TCAGCAGCAGT`, which is `zR7HujP8jYfpROv-hBLZMHuR_5P4Zo0q`, and the
+ * capacities 2, 3 and 15, the journal begins at 116 and the pool at 128, and 143 bytes are needed.
+ */
+fv_outcome fv_blank(uint8_t *image, size_t image_len, uint64_t residues,
+                    const uint8_t *digest, size_t digest_len,
+                    uint64_t records, uint64_t journal, uint64_t pool);
+
+/* The answer of an entry. Where it is refused, all that follows `value` is 0. */
+typedef struct {
+    uint64_t refusal;
+    uint64_t value;
+    uint64_t answer; /* 1 new, 2 again, 3 known */
+    uint64_t number; /* the allele's, from 1 */
+} fv_entered;
+
+/*
+ * Enters an allele of the image's reference in its normal form (see fv_normal_form). Records are compared
+ * with it by start, end and replacement:
+ *   known   an active record is equal: the lowest such number is answered, and nothing is written;
+ *   again   none is, but an inactive one: the lowest such number becomes active. Its status, the next
+ *           journal entry and the journal count are written;
+ *   new     none is equal: the next number is issued, and is active. Its record, its letters in the
+ *           pool, the next journal entry and the three counts are written.
+ * All other bytes of the image stay as they were.
+ *
+ * The digest is that of the reference. It is compared with the header's, and nothing compares it with the
+ * reference. It must not be lent as `image + 44`, since that overlaps the image.
+ *
+ * Accepted: { 0, 0, answer, number }. Refused, in this order:
+ *   10, value 0   the image is not well formed;
+ *   11, value 0   the digest is not the header's 32 bytes;
+ *   11, value 1   the reference has another length than the header says;
+ *   1, value 1    the replacement has over 1,000,000 bytes;
+ *   2, value 0    start is above end;
+ *   3, value n    end is above n, the length of the reference;
+ *   4, value i    replacement[i] is not a residue, and no byte before it is foreign;
+ *   5, value i    byte i of the normal replacement is not a residue, and no byte before it is foreign;
+ *   12, value 0   the allele is unchanged: it makes the reference itself;
+ * then, where it would be new,
+ *   13, value C   all C records are taken;
+ *   14, value P   the pool, of P letters, has fewer left than the normal replacement has;
+ * and where it would be new or again,
+ *   15, value J   all J journal entries are in use.
+ * No `start` or `end` is too large to be refused so.
+ *
+ * On fv_blank's example, with the reference `TCAGCAGCAGT` and its digest, start 4, end 4 and `CAG` are
+ * answered { 0, 0, 1, 1 }: new, number 1. Then start 1, end 2 and `CAGC`, which make the same sequence,
+ * are answered { 0, 0, 3, 1 }: known, number 1.
+ */
+fv_entered fv_entry(uint8_t *image, size_t image_len, const uint8_t *digest, size_t digest_len,
+                    const uint8_t *reference, size_t reference_len, uint64_t start, uint64_t end,
+                    const uint8_t *replacement, size_t replacement_len);
+
+/*
+ * Makes an active number inactive. Its status, the next journal entry and the journal count are written.
+ *
+ * Accepted: { 0, 0 }. Refused, in this order:
+ *   10, value 0   the image is not well formed;
+ *   16, value k   number is 0, or above k, how many are issued;
+ *   17, value i   number, which is i, is not active;
+ *   15, value J   all J journal entries are in use.
+ * No `number` is too large to be refused so.
+ */
+fv_outcome fv_withdraw(uint8_t *image, size_t image_len, uint64_t number);
+
+/* The answer of an undo. Where it is refused, `number` is 0. */
+typedef struct {
+    uint64_t refusal;
+    uint64_t value;
+    uint64_t number; /* the one whose change was taken back */
+} fv_undone;
+
+/*
+ * Takes the latest change in the journal back: an active number becomes inactive, an inactive one active,
+ * and the journal count is one less. These two numbers are written, and nothing is cleared: a number once
+ * issued keeps its record and is never issued again. The next change uses the journal entry that is free.
+ *
+ * Accepted: { 0, 0, number }. Refused, in this order:
+ *   10, value 0   the image is not well formed;
+ *   18, value 0   the journal count is 0.
+ */
+fv_undone fv_undo(uint8_t *image, size_t image_len);
+
+/*
+ * Makes all changes so far final: the journal count is written as 0, and no undo goes behind it. With a
+ * journal count of 0 it is accepted as well, and changes no byte.
+ *
+ * Accepted: { 0, 0 }. Refused:
+ *   10, value 0   the image is not well formed.
+ */
+fv_outcome fv_seal(uint8_t *image, size_t image_len);
+
 #ifdef __cplusplus
 }
 #endif

@@ -56,11 +56,21 @@ static const call calls[] = {
     {'a', 3, "rrrw"}, /* fv_allele_identifier: likewise */
     {'R', 0, "r"},    /* fv_read_location: text */
     {'r', 0, "r"},    /* fv_read_allele: text */
+    {'b', 4, "wr"},   /* fv_blank: reference_length, records, journal, pool; image, digest */
+    {'e', 2, "wrrr"}, /* fv_entry: start, end; image, digest, reference, replacement */
+    {'w', 1, "w"},    /* fv_withdraw: number; image */
+    {'u', 0, "w"},    /* fv_undo: image */
+    {'S', 0, "w"},    /* fv_seal: image */
 };
 
 static int written(fv_written w, uint64_t *a) {
     a[0] = w.refusal, a[1] = w.value, a[2] = w.length;
     return 3;
+}
+
+static int outcome(fv_outcome o, uint64_t *a) {
+    a[0] = o.refusal, a[1] = o.value;
+    return 2;
 }
 
 /* Makes the call and answers how many numbers it left in a. */
@@ -96,6 +106,23 @@ static int make(char code, const uint64_t *n, const slice *s, uint64_t *a) {
         a[0] = l.refusal, a[1] = l.value, a[2] = l.location, a[3] = l.sequence, a[4] = l.length;
         return 5;
     }
+    case 'b':
+        return outcome(fv_blank(s[0].at, s[0].length, n[0], s[1].at, s[1].length, n[1], n[2], n[3]), a);
+    case 'e': {
+        fv_entered e = fv_entry(s[0].at, s[0].length, s[1].at, s[1].length, s[2].at, s[2].length,
+                                n[0], n[1], s[3].at, s[3].length);
+        a[0] = e.refusal, a[1] = e.value, a[2] = e.answer, a[3] = e.number;
+        return 4;
+    }
+    case 'w':
+        return outcome(fv_withdraw(s[0].at, s[0].length, n[0]), a);
+    case 'u': {
+        fv_undone u = fv_undo(s[0].at, s[0].length);
+        a[0] = u.refusal, a[1] = u.value, a[2] = u.number;
+        return 3;
+    }
+    case 'S':
+        return outcome(fv_seal(s[0].at, s[0].length), a);
     }
     return 0;
 }

@@ -39,6 +39,11 @@ class Case(NamedTuple):
     slices: tuple
     answer: tuple  # the numbers expected, the refusal first
     lent: tuple  # the slices that the call may write, as expected afterwards
+    accepted: str = "accepted"  # what an accepted answer is counted as
+
+    def outcome(self):
+        """The refusal, or what an accepted answer is counted as."""
+        return self.answer[0] or self.accepted
 
 
 def number(x):
@@ -109,14 +114,14 @@ def settle(cases, driver, answers):
 
 
 def exchange(command, cases):
-    """Makes all calls; ends the program at the first disagreement. Answers how often each refusal was met."""
+    """Makes all calls; ends the program at the first disagreement. Answers how often each call had each outcome."""
     cases, met, running = iter(cases), Counter(), None
     while some := list(islice(cases, CALLS_IN_A_RUN)):
         following = start(command, some)
         if running:
             settle(*running)
         running = following
-        met.update(case.answer[0] for case in some)
+        met.update((case.call, case.outcome()) for case in some)
     if running:
         settle(*running)
     return met

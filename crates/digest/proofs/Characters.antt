@@ -5,7 +5,8 @@ use mathlib.Core.Path.{_≡_, refl}
 use mathlib.Core.Bool.{Bool, true}
 use mathlib.Core.List.{List}
 use lib.ListN.{length, getD, take}
-use Rattle.stretch.proofs.Cases.{below, below-at}
+use Rattle.stretch.specs.Below.{below}
+use Rattle.stretch.proofs.Below.{below-at}
 use Rattle.letters.specs.Letters.{base64url, every}
 use Rattle.letters.proofs.Class.{every-append}
 use Rattle.sha512.specs.Message.{sha512}

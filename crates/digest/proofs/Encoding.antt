@@ -10,7 +10,8 @@ use lib.ListN.{length, getD, take, drop, length-append}
 use borrow.Author.Tests.{eqb-true}
 use Rattle.stretch.specs.Over.{over}
 use Rattle.stretch.proofs.Over.{over-next, over-tail-front}
-use Rattle.stretch.proofs.Cases.{below, below-at}
+use Rattle.stretch.specs.Below.{below}
+use Rattle.stretch.proofs.Below.{below-at}
 use Rattle.sha512.specs.Message.{sha512}
 use Rattle.sha512.proofs.Numbers.{length-sha512}
 use Rattle.digest.specs.Base64.{character, group, encoded}

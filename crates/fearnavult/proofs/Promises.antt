@@ -11,11 +11,11 @@ use Rattle.reading.specs.Accepted.{ReadsLocation, ReadsAllele}
 use Rattle.reading.proofs.Promises.{reads-location-once, reads-allele-once}
 use Rattle.digest.specs.Calls.{Identifies}
 use Rattle.identify.specs.Calls.{Says, SaysLocation, IdentifiesLocation, SaysAllele, IdentifiesAllele}
-use Rattle.fearnavult.specs.declared.FvAllele.{FvAllele}
-use Rattle.fearnavult.specs.declared.FvForm.{FvForm}
-use Rattle.fearnavult.specs.declared.FvLocation.{FvLocation}
-use Rattle.fearnavult.specs.declared.FvWritten.{FvWritten}
-use Rattle.fearnavult.specs.Flat.{flatWritten, flatForm, flatLocation, flatAllele, Flattened}
+use Rattle.flat.specs.declared.FvAllele.{FvAllele}
+use Rattle.flat.specs.declared.FvForm.{FvForm}
+use Rattle.flat.specs.declared.FvLocation.{FvLocation}
+use Rattle.flat.specs.declared.FvWritten.{FvWritten}
+use Rattle.flat.specs.Flat.{flatWritten, flatForm, flatLocation, flatAllele, Flattened}
 
 -- one answer below is one answer above
 flat-once : {A B : Type 0} (flatten : A → B) (P Q : A → Type 0) (a₁ a₂ : B) (p : Flattened flatten P a₁) (q : Flattened flatten Q a₂) → p .below ≡ q .below → a₁ ≡ a₂

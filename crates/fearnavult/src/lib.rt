@@ -1,62 +1,27 @@
 // The C library: each public call as an exported function, flattened to C's shapes.
 // include/fearnavult.h declares them.
 //
-// specs/Flat.antt has the flattening and what every export promises.
-mod read;
-mod written;
-
-use read::flat_allele;
-use read::flat_location;
-use written::flat_form;
-use written::flat_written;
+// Crate `flat` has the flattening and what every export promises.
+use flat::FvAllele;
+use flat::FvEntered;
+use flat::FvForm;
+use flat::FvLocation;
+use flat::FvOutcome;
+use flat::FvUndone;
+use flat::FvWritten;
+use flat::flat_allele;
+use flat::flat_entered;
+use flat::flat_form;
+use flat::flat_location;
+use flat::flat_outcome;
+use flat::flat_undone;
+use flat::flat_written;
 ghost use Rattle.normal.specs.Calls.{Normalises};
 ghost use Rattle.reading.specs.Accepted.{ReadsLocation, ReadsAllele};
 ghost use Rattle.digest.specs.Calls.{Identifies};
 ghost use Rattle.identify.specs.Calls.{SaysLocation, IdentifiesLocation, SaysAllele, IdentifiesAllele};
-ghost use Rattle.fearnavult.specs.Flat.{flatWritten, flatForm, flatLocation, flatAllele, Flattened};
-
-// What a call that writes answers: document 01's number of the refusal and its value, and the count
-// of bytes written. Each is 0 where it doesn't apply.
-#[repr(C)]
-pub struct FvWritten {
-    pub refusal: u64,
-    pub value: u64,
-    pub length: u64,
-}
-
-// What the normal form's call answers: the refusal as above, the kind (0 unchanged, 1 substitution,
-// 2 indel), the interval, and the length of the replacement. Each is 0 where it doesn't apply.
-#[repr(C)]
-pub struct FvForm {
-    pub refusal: u64,
-    pub value: u64,
-    pub kind: u64,
-    pub start: u64,
-    pub end: u64,
-    pub length: u64,
-}
-
-// What a location text is read as: the refusal as above, the interval, and where the digest lies.
-// Each is 0 where it doesn't apply.
-#[repr(C)]
-pub struct FvLocation {
-    pub refusal: u64,
-    pub value: u64,
-    pub start: u64,
-    pub end: u64,
-    pub digest: u64,
-}
-
-// What an allele text is read as: the refusal as above, where the location's digest lies, and where
-// the sequence does, with its length. Each is 0 where it doesn't apply.
-#[repr(C)]
-pub struct FvAllele {
-    pub refusal: u64,
-    pub value: u64,
-    pub location: u64,
-    pub sequence: u64,
-    pub length: u64,
-}
+ghost use Rattle.register.specs.Calls.{Blanks, Enters, Withdraws, Undoes, Seals};
+ghost use Rattle.flat.specs.Flat.{flatWritten, flatForm, flatLocation, flatAllele, flatOutcome, flatEntered, flatUndone, Flattened};
 
 // As `digest::sequence_identifier`.
 #[no_mangle]
@@ -165,4 +130,58 @@ pub extern "C" fn fv_read_allele(text: &[u8]) -> FvAllele
     ensures { λ r. ⌜ Flattened flatAllele (ReadsAllele (now (text .entry))) r ⌝ }
 {
     flat_allele(reading::read_allele(text))
+}
+
+// As `register::blank`.
+#[no_mangle]
+pub extern "C" fn fv_blank(
+    image: &mut [u8],
+    residues: u64,
+    digest: &[u8],
+    records: u64,
+    journal: u64,
+    pool: u64,
+) -> FvOutcome
+    ensures { λ r. ⌜ Flattened flatOutcome (λ a. Blanks (now (image .entry)) residues (now (digest .entry)) records journal pool a (now (image .exit))) r ⌝ }
+{
+    flat_outcome(register::blank(image, residues, digest, records, journal, pool))
+}
+
+// As `register::entry`.
+#[no_mangle]
+pub extern "C" fn fv_entry(
+    image: &mut [u8],
+    digest: &[u8],
+    reference: &[u8],
+    start: u64,
+    end: u64,
+    replacement: &[u8],
+) -> FvEntered
+    ensures { λ r. ⌜ Flattened flatEntered (λ a. Enters (now (image .entry)) (now (digest .entry)) (now (reference .entry)) start end (now (replacement .entry)) a (now (image .exit))) r ⌝ }
+{
+    flat_entered(register::entry(image, digest, reference, start, end, replacement))
+}
+
+// As `register::withdraw`.
+#[no_mangle]
+pub extern "C" fn fv_withdraw(image: &mut [u8], number: u64) -> FvOutcome
+    ensures { λ r. ⌜ Flattened flatOutcome (λ a. Withdraws (now (image .entry)) number a (now (image .exit))) r ⌝ }
+{
+    flat_outcome(register::withdraw(image, number))
+}
+
+// As `register::undo`.
+#[no_mangle]
+pub extern "C" fn fv_undo(image: &mut [u8]) -> FvUndone
+    ensures { λ r. ⌜ Flattened flatUndone (λ a. Undoes (now (image .entry)) a (now (image .exit))) r ⌝ }
+{
+    flat_undone(register::undo(image))
+}
+
+// As `register::seal`.
+#[no_mangle]
+pub extern "C" fn fv_seal(image: &mut [u8]) -> FvOutcome
+    ensures { λ r. ⌜ Flattened flatOutcome (λ a. Seals (now (image .entry)) a (now (image .exit))) r ⌝ }
+{
+    flat_outcome(register::seal(image))
 }

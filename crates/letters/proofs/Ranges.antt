@@ -3,7 +3,8 @@ use Prim.Native.Nat.{ℕ, _<_}
 use mathlib.Core.Path.{_≡_, refl}
 use mathlib.Core.Bool.{Bool, true, false, cond, Bool·beq}
 use lib.Dec.{ltb, leb, eqb}
-use Rattle.stretch.proofs.Cases.{below, below-at}
+use Rattle.stretch.specs.Below.{below}
+use Rattle.stretch.proofs.Below.{below-at}
 use Rattle.letters.specs.Letters.{base64url}
 
 unfoldable pub ranged : ℕ → Bool

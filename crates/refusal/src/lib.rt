@@ -40,6 +40,26 @@ pub const BAD_DIGEST_TEXT: u64 = 7;
 
 pub const TEXT_NOT_ACCEPTED: u64 = 8;
 
+pub const NO_ROOM_FOR_IMAGE: u64 = 9;
+
+pub const IMAGE_NOT_WELL_FORMED: u64 = 10;
+
+pub const OTHER_REFERENCE: u64 = 11;
+
+pub const UNCHANGED_ALLELE: u64 = 12;
+
+pub const NO_FREE_RECORD: u64 = 13;
+
+pub const NO_POOL_ROOM: u64 = 14;
+
+pub const NO_JOURNAL_ROOM: u64 = 15;
+
+pub const NO_SUCH_NUMBER: u64 = 16;
+
+pub const NOT_ACTIVE: u64 = 17;
+
+pub const NOTHING_TO_UNDO: u64 = 18;
+
 pub const REFERENCE_LIMIT: u64 = 1_000_000_000;
 
 pub const REPLACEMENT_LIMIT: u64 = 1_000_000;

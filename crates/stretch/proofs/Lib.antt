@@ -1,3 +1,4 @@
+pub mod Below
 pub mod BigEndian
 pub mod Cases
 pub mod Common
@@ -7,4 +8,5 @@ pub mod Same
 pub mod Shared
 pub mod Suffix
 pub mod Tail
+pub mod Through
 pub mod Wrote

@@ -1,4 +1,5 @@
 pub mod Ascii
+pub mod Below
 pub mod BigEndian
 pub mod Common
 pub mod Over

@@ -1,7 +1,7 @@
 // Digest texts: of 32 base64url characters, of other lengths, with other characters.
-use crate::print::outcome;
-use crate::print::shown;
-use crate::print::text;
+use print::outcome;
+use print::shown;
+use print::text;
 
 fn line(digest: &[u8]) {
     text(b"digest-text ");

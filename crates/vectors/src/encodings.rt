@@ -1,6 +1,6 @@
 // Base64url of three bytes.
-use crate::print::hex_byte;
-use crate::print::text;
+use print::hex_byte;
+use print::text;
 
 fn line(a: u8, b: u8, c: u8) {
     text(b"base64url ");

@@ -1,8 +1,8 @@
 // Identifiers of whole references, in buffers with and without room for them.
-use crate::print::labelled;
-use crate::print::shown;
-use crate::print::text;
-use crate::print::written_text;
+use print::labelled;
+use print::shown;
+use print::text;
+use print::written_text;
 ghost use Prim.Native.Nat.{_≤_};
 
 fn line(reference: &[u8], out: &mut [u8], place: u64) {

@@ -1,7 +1,7 @@
 // SHA-512 of a message of each length to 300, whole and in two parts: so with every padding.
-use crate::print::hex;
-use crate::print::labelled;
-use crate::print::text;
+use print::hex;
+use print::labelled;
+use print::text;
 use stretch::equal;
 ghost use Prim.Native.Nat.{_≤_};
 ghost use lib.ListN.{length};

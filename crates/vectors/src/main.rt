@@ -1,15 +1,11 @@
-// Prints test vectors, a line each. They have to be those of the file stdout, which a second program
-// makes, tests/second/vectors.py, with digests and base64url that are not ours.
-mod alleles;
+// Prints test vectors of digests, a line each. They have to be those of the file stdout, which a second
+// program makes, tests/second/vectors.py, with digests and base64url that are not ours.
 mod digest_texts;
 mod encodings;
 mod identifiers;
 mod lengths;
-mod print;
 mod published;
-mod readings;
 mod running;
-mod texts;
 
 fn main() {
     published::lines();
@@ -18,7 +14,4 @@ fn main() {
     identifiers::lines();
     running::lines();
     digest_texts::lines();
-    alleles::lines();
-    texts::lines();
-    readings::lines();
 }

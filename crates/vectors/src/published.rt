@@ -1,6 +1,6 @@
 // SHA-512 of the messages that FIPS 180-4 and its examples publish.
-use crate::print::hex;
-use crate::print::text;
+use print::hex;
+use print::text;
 use sha512::Running;
 ghost use mathlib.Core.Path.{_≡_};
 ghost use lib.ListN.{length};

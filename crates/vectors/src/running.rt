@@ -1,9 +1,9 @@
 // Running digests that have taken a total: one more part, and the finish.
-use crate::print::labelled;
-use crate::print::outcome;
-use crate::print::shown;
-use crate::print::text;
-use crate::print::written;
+use print::labelled;
+use print::outcome;
+use print::shown;
+use print::text;
+use print::written;
 use sha512::Running;
 ghost use Prim.Native.Nat.{_≤_};
 

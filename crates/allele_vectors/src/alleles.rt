@@ -1,0 +1,128 @@
+// Normal forms: document 01's worked alleles, and each refusal that short slices can meet, at its
+// boundary.
+use normal::Form;
+use normal::Kind;
+use normal::Normalised;
+use print::labelled;
+use print::part;
+use print::refused;
+use print::shown;
+use print::text;
+ghost use Prim.Native.Nat.{_≤_};
+
+fn kind_name(kind: Kind) {
+    match kind {
+        Kind::Unchanged => text(b" unchanged "),
+        Kind::Substitution => text(b" substitution "),
+        Kind::Indel => text(b" indel "),
+    }
+}
+
+fn form(out: &[u8], place: u64, found: Form) {
+    labelled(b" formed ", found.start);
+    labelled(b" ", found.end);
+    let kind = found.kind;
+    kind_name(kind);
+    shown(part(out, place, found.length));
+}
+
+fn answered(out: &[u8], place: u64, found: Normalised) {
+    match found {
+        Normalised::Accepted(normal) => form(out, place, normal),
+        Normalised::Refused(r) => refused(r),
+    }
+    text(b"\n");
+}
+
+fn given(reference: &[u8], start: u64, end: u64, replacement: &[u8]) {
+    text(b"normal-form ");
+    shown(reference);
+    labelled(b" ", start);
+    labelled(b" ", end);
+    text(b" ");
+    shown(replacement);
+}
+
+fn line(reference: &[u8], start: u64, end: u64, replacement: &[u8], out: &mut [u8], place: u64) {
+    given(reference, start, end, replacement);
+    labelled(b" place ", place);
+    labelled(b" room ", out.len() as u64);
+    let found = normal::normal_form(reference, start, end, replacement, out, place);
+    answered(out, place, found);
+}
+
+fn in_room(reference: &[u8], start: u64, end: u64, replacement: &[u8], place: u64, room: usize)
+    requires { ⌜ room ≤ 16 ⌝ }
+{
+    let mut space = [0u8; 16];
+    line(
+        reference,
+        start,
+        end,
+        replacement,
+        &mut space[0..room],
+        place,
+    );
+}
+
+// On document 01's reference, with room for every answer.
+fn worked(start: u64, end: u64, replacement: &[u8]) {
+    in_room(b"TCAGCAGCAGT", start, end, replacement, 2, 16);
+}
+
+// Cases 1 to 12.
+fn forms() {
+    worked(4, 4, b"CAG");
+    worked(1, 2, b"CAGC");
+    worked(1, 4, b"");
+    worked(2, 3, b"T");
+    worked(1, 5, b"CTGC");
+    worked(3, 5, b"TTT");
+    worked(0, 0, b"T");
+    worked(11, 11, b"A");
+    worked(0, 11, b"");
+    worked(1, 4, b"CAG");
+    worked(2, 2, b"");
+    in_room(b"", 0, 0, b"ACGT", 0, 16);
+}
+
+// Cases 13 and 14, and what is given out of order, past the end or foreign.
+fn givens() {
+    worked(9, 4, b"A");
+    worked(4, 11, b"A");
+    worked(4, 12, b"A");
+    worked(12, 12, b"a");
+    worked(u64::MAX, 11, b"A");
+    worked(u64::MAX, u64::MAX, b"A");
+    in_room(b"", 0, 1, b"", 0, 16);
+    worked(4, 11, b"A[");
+    worked(4, 11, b"@A");
+    worked(5, 4, b"@A");
+}
+
+// Case 15, and foreign bytes of the reference that come into the normal replacement, or do not.
+fn foreign_references() {
+    in_room(b"TxxT", 1, 2, b"", 0, 16);
+    in_room(b"TAxAxAT", 2, 4, b"", 0, 16);
+    in_room(b"AxC", 1, 2, b"", 0, 16);
+    in_room(b"TxxT", 1, 3, b"A", 0, 16);
+    in_room(b"TxxT", 1, 2, b"", 0, 0);
+}
+
+// 12 bytes to be written, and none.
+fn rooms() {
+    in_room(b"TCAGCAGCAGT", 4, 4, b"CAG", 4, 16);
+    in_room(b"TCAGCAGCAGT", 4, 4, b"CAG", 5, 16);
+    in_room(b"TCAGCAGCAGT", 4, 4, b"CAG", 0, 11);
+    in_room(b"TCAGCAGCAGT", 4, 4, b"CAG", u64::MAX, 16);
+    in_room(b"TCAGCAGCAGT", 0, 11, b"", 16, 16);
+    in_room(b"TCAGCAGCAGT", 0, 11, b"", 17, 16);
+    in_room(b"TCAGCAGCAGT", 0, 11, b"", 0, 0);
+}
+
+pub fn lines() {
+    forms();
+    givens();
+    foreign_references();
+    rooms();
+}

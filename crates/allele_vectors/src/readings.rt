@@ -1,0 +1,88 @@
+// Texts read: what reading one answers, and texts that are refused, at each part.
+use print::labelled;
+use print::refused;
+use print::shown;
+use print::text;
+use print::two;
+use reading::AlleleRead;
+use reading::LocationParts;
+use reading::LocationRead;
+
+fn location_parts(parts: LocationParts, digest: &[u8]) {
+    labelled(b" read ", parts.start);
+    labelled(b" ", parts.end);
+    text(b" ");
+    shown(digest);
+}
+
+// What reading `s` as a location text answers, to the end of the line.
+pub fn location(s: &[u8]) {
+    match reading::read_location(s) {
+        LocationRead::Accepted(parts) => location_parts(parts, reading::digest_of(s)),
+        LocationRead::Refused(r) => refused(r),
+    }
+    text(b"\n");
+}
+
+// What reading `s` as an allele text answers, to the end of the line.
+pub fn allele(s: &[u8]) {
+    match reading::read_allele(s) {
+        AlleleRead::Accepted(_) => two(b" read ", reading::location_of(s), reading::sequence_of(s)),
+        AlleleRead::Refused(r) => refused(r),
+    }
+    text(b"\n");
+}
+
+fn location_line(s: &[u8]) {
+    text(b"read-location ");
+    shown(s);
+    location(s);
+}
+
+fn allele_line(s: &[u8]) {
+    text(b"read-allele ");
+    shown(s);
+    allele(s);
+}
+
+// Nothing; a text cut off; a digit behind a first 0; an end over the limit; two starts above the end.
+fn numbers() {
+    location_line(b"");
+    location_line(b"{\"interval\":{\"end\":10,\"sta");
+    location_line(b"{\"interval\":{\"end\":00,");
+    location_line(b"{\"interval\":{\"end\":1000000001,");
+    location_line(b"{\"interval\":{\"end\":5,\"start\":50,");
+    location_line(b"{\"interval\":{\"end\":5,\"start\":6,");
+}
+
+// A digest of 33 characters; a byte behind the text.
+fn locations() {
+    location_line(
+        b"{\"interval\":{\"end\":10,\"start\":1,\"type\":\"SimpleInterval\"},\"sequence_id\":\"aKF498dAxcJAqme6QYQ7EZ07-fiw8Kw2A\",\"type\":\"SequenceLocation\"}",
+    );
+    location_line(
+        b"{\"interval\":{\"end\":10,\"start\":1,\"type\":\"SimpleInterval\"},\"sequence_id\":\"aKF498dAxcJAqme6QYQ7EZ07-fiw8Kw2\",\"type\":\"SequenceLocation\"}}",
+    );
+}
+
+// A digest of 31 characters; a foreign letter; a byte too few, and one too many.
+fn alleles() {
+    allele_line(
+        b"{\"location\":\"aKF498dAxcJAqme6QYQ7EZ07-fiw8Kw\",\"state\":{\"sequence\":\"\",\"type\":\"SequenceState\"},\"type\":\"Allele\"}",
+    );
+    allele_line(
+        b"{\"location\":\"aKF498dAxcJAqme6QYQ7EZ07-fiw8Kw2\",\"state\":{\"sequence\":\"CAg\",\"type\":\"SequenceState\"},\"type\":\"Allele\"}",
+    );
+    allele_line(
+        b"{\"location\":\"aKF498dAxcJAqme6QYQ7EZ07-fiw8Kw2\",\"state\":{\"sequence\":\"CAG\",\"type\":\"SequenceState\"},\"type\":\"Allele\"",
+    );
+    allele_line(
+        b"{\"location\":\"aKF498dAxcJAqme6QYQ7EZ07-fiw8Kw2\",\"state\":{\"sequence\":\"CAG\",\"type\":\"SequenceState\"},\"type\":\"Allele\"}}",
+    );
+}
+
+pub fn lines() {
+    numbers();
+    locations();
+    alleles();
+}

@@ -1,0 +1,82 @@
+// The answers of the calls as C reads them.
+//
+// specs/Flat.antt has the flattening, and what every export of the C library promises.
+mod numbered;
+mod read;
+mod written;
+
+pub use numbered::flat_entered;
+pub use numbered::flat_outcome;
+pub use numbered::flat_undone;
+pub use read::flat_allele;
+pub use read::flat_location;
+pub use written::flat_form;
+pub use written::flat_written;
+
+// What a call that writes answers: document 01's number of the refusal and its value, and the count
+// of bytes written. Each is 0 where it doesn't apply.
+#[repr(C)]
+pub struct FvWritten {
+    pub refusal: u64,
+    pub value: u64,
+    pub length: u64,
+}
+
+// What the normal form's call answers: the refusal as above, the kind (0 unchanged, 1 substitution,
+// 2 indel), the interval, and the length of the replacement. Each is 0 where it doesn't apply.
+#[repr(C)]
+pub struct FvForm {
+    pub refusal: u64,
+    pub value: u64,
+    pub kind: u64,
+    pub start: u64,
+    pub end: u64,
+    pub length: u64,
+}
+
+// What a location text is read as: the refusal as above, the interval, and where the digest lies.
+// Each is 0 where it doesn't apply.
+#[repr(C)]
+pub struct FvLocation {
+    pub refusal: u64,
+    pub value: u64,
+    pub start: u64,
+    pub end: u64,
+    pub digest: u64,
+}
+
+// What an allele text is read as: the refusal as above, where the location's digest lies, and where
+// the sequence does, with its length. Each is 0 where it doesn't apply.
+#[repr(C)]
+pub struct FvAllele {
+    pub refusal: u64,
+    pub value: u64,
+    pub location: u64,
+    pub sequence: u64,
+    pub length: u64,
+}
+
+// What a call answers that only accepts or refuses: the refusal as above.
+#[repr(C)]
+pub struct FvOutcome {
+    pub refusal: u64,
+    pub value: u64,
+}
+
+// What an entry answers: the refusal as above, how the allele was found (1 new, 2 again, 3 known), and
+// its number. Each is 0 where it doesn't apply.
+#[repr(C)]
+pub struct FvEntered {
+    pub refusal: u64,
+    pub value: u64,
+    pub answer: u64,
+    pub number: u64,
+}
+
+// What an undo answers: the refusal as above, and the number. Each is 0 where it doesn't apply.
+#[repr(C)]
+pub struct FvUndone {
+    pub refusal: u64,
+    pub value: u64,
+    pub number: u64,
+}

@@ -1,0 +1,68 @@
+// The answers of the register's calls, flattened.
+use super::FvEntered;
+use super::FvOutcome;
+use super::FvUndone;
+use refusal::Outcome;
+use register::Entered;
+use register::Undone;
+ghost use mathlib.Core.Path.{_≡_};
+ghost use Rattle.flat.specs.Flat.{flatOutcome, flatEntered, flatUndone};
+
+pub fn flat_outcome(a: Outcome) -> FvOutcome
+    ensures { λ r. ⌜ r ≡ flatOutcome a ⌝ }
+{
+    match a {
+        Outcome::Accepted => FvOutcome {
+            refusal: 0,
+            value: 0,
+        },
+        Outcome::Refused(why) => FvOutcome {
+            refusal: why.number,
+            value: why.value,
+        },
+    }
+}
+
+fn entered_as(answer: u64, number: u64) -> FvEntered
+    ensures { λ r. ⌜ r ≡ record { refusal = 0; value = 0; answer = answer; number = number } ⌝ }
+{
+    FvEntered {
+        refusal: 0,
+        value: 0,
+        answer,
+        number,
+    }
+}
+
+pub fn flat_entered(a: Entered) -> FvEntered
+    ensures { λ r. ⌜ r ≡ flatEntered a ⌝ }
+{
+    match a {
+        Entered::New(number) => entered_as(1, number),
+        Entered::Again(number) => entered_as(2, number),
+        Entered::Known(number) => entered_as(3, number),
+        Entered::Refused(why) => FvEntered {
+            refusal: why.number,
+            value: why.value,
+            answer: 0,
+            number: 0,
+        },
+    }
+}
+
+pub fn flat_undone(a: Undone) -> FvUndone
+    ensures { λ r. ⌜ r ≡ flatUndone a ⌝ }
+{
+    match a {
+        Undone::Number(number) => FvUndone {
+            refusal: 0,
+            value: 0,
+            number,
+        },
+        Undone::Refused(why) => FvUndone {
+            refusal: why.number,
+            value: why.value,
+            number: 0,
+        },
+    }
+}

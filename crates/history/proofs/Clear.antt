@@ -1,0 +1,106 @@
+-- Where the changes write: beside all that stands.
+use Prim.Native.Nat.{ℕ, _+_, _*_, _<_, _≤_}
+use native.Mathlib.Nat.{eq-or-lt-of-le}
+use native.Mathlib.Omega.{arith}
+use mathlib.Core.Logic.{inl, inr, ⊎-elim}
+use mathlib.Core.Path.{_≡_, sym}
+use mathlib.Core.List.{List}
+use lib.Dec.{leb, ltb}
+use lib.ListN.{length}
+use borrow.Author.Tests.{leb-true, leb-false, ltb-true, ltb-false}
+use Rattle.stretch.proofs.Cases.{by-cases}
+use Rattle.image.specs.Fields.{headerSize, recordSize, entrySize, recordCapacity, issued, issuedPlace, journalCapacity, journalCount, journalCountPlace, journalAt, poolCapacity, poolUsed, poolUsedPlace, poolAt, recordAt, statusAt, entryAt}
+use Rattle.image.specs.Header.{Header}
+use Rattle.image.proofs.Patched.{record-header, record-order, record-apart, record-journal}
+use Rattle.image.proofs.Spared.{Aside}
+use Rattle.history.proofs.Spares.{Unwritten, edition-on, records-on, journal-on, pool-on, record-of, status-of, entries, letters, Clear}
+
+module _ (b : List ℕ) (h : Header b) (i : ℕ) where
+  pub record-end : (j : ℕ) → 1 ≤ j → j ≤ issued b → recordAt j + recordSize ≤ journalAt b
+  record-end j o l = omega (arith, record-journal j (recordCapacity b) o (omega (arith, h .records)), h .journal)
+
+  journal-end : journalAt b + entrySize * journalCapacity b ≡ poolAt b
+  journal-end = omega (arith, h .journal, h .pool)
+
+  -- a write to the header
+  clear-header : (p : ℕ) → p + 4 ≤ headerSize → Aside p 4 0 8 → Aside p 4 12 20 → Aside p 4 24 32 → Aside p 4 36 headerSize → Clear b i p 4
+  clear-header p l first second third fourth = record { room = omega (arith, h .pool, h .whole); aside = beside }
+    where
+      beside : (from to : ℕ) → Unwritten b i from to → Aside p 4 from to
+      beside _ _ edition-on = first
+      beside _ _ records-on = second
+      beside _ _ journal-on = third
+      beside _ _ pool-on = fourth
+      beside _ _ (record-of j _ _) = inr (omega (arith, record-header j))
+      beside _ _ (status-of j _ _ _) = inr (omega (arith, record-header j))
+      beside _ _ entries = inr (omega (arith, h .journal))
+      beside _ _ letters = inr (omega (arith, h .pool))
+
+  pub clear-issued : Clear b i issuedPlace 4
+  clear-issued = clear-header issuedPlace (omega arith) (inl (omega arith)) (inr (omega arith)) (inr (omega arith)) (inr (omega arith))
+
+  pub clear-count : Clear b i journalCountPlace 4
+  clear-count = clear-header journalCountPlace (omega arith) (inl (omega arith)) (inl (omega arith)) (inr (omega arith)) (inr (omega arith))
+
+  pub clear-used : Clear b i poolUsedPlace 4
+  clear-used = clear-header poolUsedPlace (omega arith) (inl (omega arith)) (inl (omega arith)) (inl (omega arith)) (inr (omega arith))
+
+  -- a write behind the header
+  clear-behind : (at n : ℕ) → headerSize ≤ at → at + n ≤ length b
+      → ((j : ℕ) → 1 ≤ j → j ≤ issued b → Aside at n (recordAt j) (statusAt j))
+      → ((j : ℕ) → 1 ≤ j → j ≤ issued b → (j ≡ i → ⊥) → Aside at n (statusAt j) (statusAt j + 4))
+      → Aside at n (journalAt b) (entryAt b (journalCount b))
+      → Aside at n (poolAt b) (poolAt b + poolUsed b)
+      → Clear b i at n
+  clear-behind at n l room records statuses journal pool = record { room = room; aside = beside }
+    where
+      beside : (from to : ℕ) → Unwritten b i from to → Aside at n from to
+      beside _ _ edition-on = inl (omega arith)
+      beside _ _ records-on = inl (omega arith)
+      beside _ _ journal-on = inl (omega arith)
+      beside _ _ pool-on = inl (omega arith)
+      beside _ _ (record-of j o g) = records j o g
+      beside _ _ (status-of j o g d) = statuses j o g d
+      beside _ _ entries = journal
+      beside _ _ letters = pool
+
+  pub clear-status : 1 ≤ i → i ≤ issued b → Clear b i (statusAt i) 4
+  clear-status o g =
+      let end : statusAt i + 4 ≤ journalAt b = omega (arith, record-end i o g) in
+      clear-behind (statusAt i) 4 (omega (arith, record-header i)) (omega (arith, journal-end, h .whole))
+      (λ j p q.
+      by-cases (leb j i)
+      (λ e. inl (omega (arith, record-order j i (leb-true j i e))))
+      (λ e. inr (omega (arith, record-apart i j o (leb-false j i e)))))
+      (λ j p q d.
+      by-cases (ltb j i)
+      (λ e. inl (omega (arith, record-apart j i p (ltb-true j i e))))
+      (λ e. ⊎-elim (λ s. absurd (d (sym s))) (λ s. inr (omega (arith, record-apart i j o s))) (eq-or-lt-of-le (ltb-false j i e))))
+      (inr end)
+      (inr (omega (arith, journal-end)))
+
+  pub clear-record : issued b < recordCapacity b → Clear b i (recordAt (issued b + 1)) recordSize
+  clear-record g =
+      let n = issued b + 1 in
+      let end : recordAt n + recordSize ≤ journalAt b = omega (arith, record-journal n (recordCapacity b) (omega arith) (omega arith), h .journal) in
+      clear-behind (recordAt n) recordSize (record-header n) (omega (arith, journal-end, h .whole))
+      (λ j p q. inl (omega (arith, record-apart j n p (omega arith))))
+      (λ j p q _. inl (omega (arith, record-apart j n p (omega arith))))
+      (inr end)
+      (inr (omega (arith, journal-end)))
+
+  pub clear-entry : journalCount b < journalCapacity b → Clear b i (entryAt b (journalCount b)) entrySize
+  clear-entry g =
+      clear-behind (entryAt b (journalCount b)) entrySize (omega (arith, h .journal)) (omega (arith, journal-end, h .whole))
+      (λ j p q. inl (omega (arith, record-end j p q)))
+      (λ j p q _. inl (omega (arith, record-end j p q)))
+      (inl (omega arith))
+      (inr (omega (arith, journal-end)))
+
+  pub clear-letters : (n : ℕ) → poolUsed b + n ≤ poolCapacity b → Clear b i (poolAt b + poolUsed b) n
+  clear-letters n g =
+      clear-behind (poolAt b + poolUsed b) n (omega (arith, h .pool)) (omega (arith, h .whole))
+      (λ j p q. inl (omega (arith, record-end j p q, journal-end)))
+      (λ j p q _. inl (omega (arith, record-end j p q, journal-end)))
+      (inl (omega (arith, journal-end, h .journalled)))
+      (inl (omega arith))

@@ -1,0 +1,46 @@
+-- Demand 3, of an image that shows what its history says.
+use Prim.Native.Nat.{ℕ}
+use mathlib.Core.Path.{_≡_, refl}
+use mathlib.Core.Logic.{inl, inr}
+use mathlib.Core.List.{List, _∷_}
+use Rattle.image.specs.Fields.{statusOf}
+use Rattle.history.specs.Events.{Way, Event, entry, undo, new}
+use Rattle.history.specs.Demand.{Active, SomeActive, Demand, EntryDemand, UndoDemand}
+use Rattle.history.proofs.View.{View, Moves}
+use Rattle.history.proofs.Shows.{shows}
+use Rattle.history.proofs.Invariant.{Inv, inv-moved}
+use Rattle.history.proofs.Replay.{Holds, SomeHolds}
+use Rattle.history.proofs.Told.{told-set, told-one, entry-holds, entry-first, undo-latest, undo-unsealed}
+
+module _ (r b : List ℕ) where
+  holds-active : (i : ℕ) (t : List ℕ) → Holds (shows r b) (statusOf b) i t → Active r b i t
+  holds-active i t held = record { live = held .live; on = held .on; stands = held .stands }
+
+  active-holds : (i : ℕ) (t : List ℕ) → Active r b i t → Holds (shows r b) (statusOf b) i t
+  active-holds i t a = record { live = a .live; on = a .on; stands = a .stands }
+
+  pub demanded : (h : List Event) → Inv h (shows r b) → Demand r h b
+  demanded h inv =
+      record {
+        replays = λ t. (
+          λ e. let some : SomeHolds (shows r b) (statusOf b) t = told-set h (shows r b) inv t .0 e in
+              record { number = some .number; shown = holds-active _ t (some .holds) },
+          λ some. told-set h (shows r b) inv t .1 (record { number = some .number; holds = active-holds _ t (some .shown) }),
+        );
+        one = told-one h (shows r b) inv;
+        stays = inv .numbers .answered;
+        journal = inv .count;
+      }
+
+  module _ (h : List Event) (v : View) (inv : Inv h v) (i : ℕ) where
+    pub entry-demanded : (way : Way) (t : List ℕ) → Moves v (entry way i t) (shows r b) → EntryDemand r h b way i t
+    entry-demanded way t m =
+        record {
+          active = holds-active i t (entry-holds h v inv (shows r b) i way t m);
+          earlier = λ j u o. told-one (entry way i t ∷ h) (shows r b) (inv-moved h (entry way i t) v (shows r b) inv m)
+              way new i j t u (inl refl) (inr o);
+          first = entry-first h v inv (shows r b) i way t m;
+        }
+
+    pub undo-demanded : Moves v (undo i) (shows r b) → UndoDemand h i
+    undo-demanded m = record { latest = undo-latest h v inv (shows r b) i m; unsealed-one = undo-unsealed h v inv (shows r b) i m }

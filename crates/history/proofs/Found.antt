@@ -1,0 +1,58 @@
+-- What an entry finds: a number that stands for its altered sequence, or that none does.
+use Prim.Native.Nat.{ℕ, _+_, _<_, _≤_}
+use native.Mathlib.Omega.{arith}
+use mathlib.Core.Path.{_≡_, refl, _∙_, sym}
+use mathlib.Core.Bool.{true, false}
+use mathlib.Core.List.{List}
+use lib.Dec.{eqb}
+use borrow.Author.Tests.{eqb-true, eqb-false}
+use Rattle.stretch.specs.Same.{same}
+use Rattle.stretch.proofs.Cases.{by-cases}
+use Rattle.normal.specs.Form.{Normal, altered, normal}
+use Rattle.image.specs.Fields.{issued, statusOf, active, inactive}
+use Rattle.register.specs.declared.Entered.{Entered}
+use Rattle.register.specs.declared.Entered.the-variants.{New, Again, Known}
+use Rattle.records.specs.Lookup.{holds, lowestHolding}
+use Rattle.register.specs.Found.{found}
+use Rattle.history.specs.Demand.{Live, sequenceOf}
+use Rattle.records.proofs.Lowest.{lowest-passes, lowest-none}
+use Rattle.history.proofs.Proper.{Has, Proper, holds-told, holds-met, has-stands, proper-has}
+
+-- number i of this status has the form
+pub record Match (b : List ℕ) (f : Normal) (status i : ℕ) : Type 0 where
+  pub live : Live b i
+  pub status-is : statusOf b i ≡ status
+  pub has : Has b i f
+
+pub data Finding (b : List ℕ) (f : Normal) : Type 0 where
+  active-as : (i : ℕ) → found b f ≡ Known i → Match b f active i → Finding b f
+  withdrawn-as : (i : ℕ) → found b f ≡ Again i → Match b f inactive i → Finding b f
+  nowhere : found b f ≡ New (issued b + 1) → ((i : ℕ) → Match b f active i → ⊥) → ((i : ℕ) → Match b f inactive i → ⊥) → Finding b f
+
+module _ (b : List ℕ) (f : Normal) where
+  module _ (status : ℕ) where
+    some : eqb (lowestHolding b status f) 0 ≡ false → Match b f status (lowestHolding b status f)
+    unfolding lowestHolding
+    some e =
+        let n = eqb-false (lowestHolding b status f) 0 e in
+        let from : 1 ≤ lowestHolding b status f = omega (arith, n) in
+        let q = lowest-passes (holds b status f) (issued b) from in
+        let t = holds-told b status f (lowestHolding b status f) (q .0) in
+        record { live = record { from = from; to = q .1 }; status-is = t .0; has = t .1 }
+
+    none : eqb (lowestHolding b status f) 0 ≡ true → (i : ℕ) → Match b f status i → ⊥
+    unfolding lowestHolding
+    none e i m =
+        let fails = lowest-none (holds b status f) (issued b) (eqb-true _ _ e) i (m .live .from) (m .live .to) in
+        let apart : _≡_ {A = ℕ} 0 1 = cc (holds-met b status f i (m .status-is) (m .has), fails) in
+        omega arith
+
+  pub finding : Finding b f
+  unfolding found
+  finding =
+      by-cases (eqb (lowestHolding b active f) 0)
+      (λ e.
+      by-cases (eqb (lowestHolding b inactive f) 0)
+      (λ g. nowhere (rw (e, g)) (none active e) (none inactive g))
+      (λ g. withdrawn-as (lowestHolding b inactive f) (rw (e, g)) (some inactive g)))
+      (λ e. active-as (lowestHolding b active f) (rw e) (some active e))

@@ -1,0 +1,78 @@
+-- What holds between a history and what a register shows, and that every event keeps it.
+use Prim.Native.Nat.{ℕ, suc}
+use native.Mathlib.Omega.{arith}
+use mathlib.Core.Path.{_≡_, refl, sym, _∙_, ap, subst}
+use mathlib.Core.List.{List, [], _∷_}
+use Rattle.history.specs.Events.{Event, entry, withdrawal, undo, seal, refusal, new, again, known, standing, unsealed, added, removed}
+use Rattle.history.proofs.View.{View, Keeps, Moves}
+use Rattle.history.proofs.Standing.{Stands, act-fresh, stands-changed, stands-undone, stands-sealed}
+use Rattle.history.proofs.Numbers.{Numbers, numbers-kept, numbers-new}
+
+pub record Inv (h : List Event) (v : View) : Type 0 where
+  pub numbers : Numbers h v
+  pub stands : Stands (standing h) v
+  pub count : v .count ≡ unsealed h
+
+-- nothing has happened to an empty register
+pub inv-empty : (v : View) → ((i : ℕ) → v .Live i → ⊥) → v .count ≡ 0 → Inv [] v
+inv-empty v none count =
+    record {
+      numbers = record {
+        issued = λ i live. absurd (none i live);
+        meaning = λ i live. absurd (none i live);
+        answered = λ way i t o. absurd o;
+        one = λ i j live. absurd (none i live);
+      };
+      stands = record { statuses = λ i live. absurd (none i live); valid = tt; matches = rw count tt };
+      count = count;
+    }
+
+keeps-all : (v : View) → Keeps v v 0
+keeps-all v =
+    record { lives = λ j live. live; lived = λ j n live. live; sequences = λ j live. refl; statuses = λ j live n. refl; journals = λ k l. refl }
+
+pub inv-moved : (h : List Event) (e : Event) (v w : View) → Inv h v → Moves v e w → Inv (e ∷ h) w
+inv-moved h (entry new i t) v w inv m =
+    record {
+      numbers = numbers-new h v w i t (inv .numbers) m;
+      stands = stands-changed (standing h) (added i t) v w (inv .stands) (m .changes)
+          (act-fresh v (standing h) i (inv .stands .valid) (m .fresh)) (m .stands);
+      count = m .changes .count ∙ ap suc (inv .count);
+    }
+inv-moved h (entry again i t) v w inv m =
+    record {
+      numbers = numbers-kept h (entry again i t) v w i (m .changes .keeps) (λ live. m .live) (inv .numbers) (λ j. refl) (m .live, m .stands);
+      stands = stands-changed (standing h) (added i t) v w (inv .stands) (m .changes)
+          (sym (inv .stands .statuses i (m .live)) ∙ m .off) (m .changes .keeps .sequences i (m .live) ∙ m .stands);
+      count = m .changes .count ∙ ap suc (inv .count);
+    }
+inv-moved h (entry known i t) v w inv m =
+    subst (Inv (entry known i t ∷ h)) (sym (m .same)) (record {
+      numbers = numbers-kept h (entry known i t) v v 0 (keeps-all v) (λ live. live) (inv .numbers) (λ j. refl) (m .live, m .stands);
+      stands = inv .stands;
+      count = inv .count;
+    })
+inv-moved h (withdrawal i) v w inv m =
+    record {
+      numbers = numbers-kept h (withdrawal i) v w i (m .changes .keeps) (λ live. m .live) (inv .numbers) (λ j. refl) tt;
+      stands = stands-changed (standing h) (removed i) v w (inv .stands) (m .changes) (sym (inv .stands .statuses i (m .live)) ∙ m .on) tt;
+      count = m .changes .count ∙ ap suc (inv .count);
+    }
+inv-moved h (undo i) v w inv m =
+    record {
+      numbers = numbers-kept h (undo i) v w i (m .keeps) (λ live. m .live) (inv .numbers) (λ j. refl) tt;
+      stands = stands-undone (standing h) v w i (inv .stands) m;
+      count = omega (arith, m .count, inv .count);
+    }
+inv-moved h seal v w inv m =
+    record {
+      numbers = numbers-kept h seal v w 0 (m .keeps) (λ live. absurd (m .nought live)) (inv .numbers) (λ j. refl) tt;
+      stands = stands-sealed (standing h) v w (inv .stands) m;
+      count = m .count;
+    }
+inv-moved h refusal v w inv m =
+    subst (Inv (refusal ∷ h)) (sym m) (record {
+      numbers = numbers-kept h refusal v v 0 (keeps-all v) (λ live. live) (inv .numbers) (λ j. refl) tt;
+      stands = inv .stands;
+      count = inv .count;
+    })

@@ -1,0 +1,54 @@
+-- An image in which the next number was issued is well formed.
+use Prim.Native.Nat.{ℕ, suc, _+_, _<_, _≤_}
+use native.Mathlib.Nat.{eq-or-lt-of-le}
+use native.Mathlib.Numerals.{add-one}
+use native.Mathlib.Omega.{arith}
+use mathlib.Core.Logic.{⊎-elim}
+use mathlib.Core.Path.{_≡_, _∙_, sym, subst}
+use mathlib.Core.Bool.{true}
+use mathlib.Core.List.{List}
+use lib.ListN.{length}
+use Rattle.letters.specs.Letters.{residue, every}
+use Rattle.normal.specs.Form.{Normal}
+use Rattle.image.specs.Fields.{recordCapacity, issued, journalCapacity, journalCount, poolCapacity, poolUsed, referenceLength}
+use Rattle.image.specs.Formed.{lengths, wellFormed}
+use Rattle.image.proofs.WellFormed.{FormedRecord, formed}
+use Rattle.history.proofs.Seen.{Issues}
+use Rattle.history.proofs.StayFormed.{lengths-stay, record-stays, header-stays, entries-next, stay-formed}
+
+module _ (b c : List ℕ) (w : wellFormed b ≡ true) (f : Normal) (r : Issues b c f) where
+  lengths-before : lengths c (issued b) ≡ poolUsed b
+  lengths-before = lengths-stay b c (formed b w) (r .stays) (issued b) (omega arith) ∙ formed b w .used
+
+  lengths-all : lengths c (issued c) ≡ poolUsed c
+  unfolding lengths
+  lengths-all = rw (r .numbers, add-one (issued b), lengths-before, ← add-one (issued b), r .letters, r .used)
+
+  new-record : f .start ≤ f .end → f .end ≤ referenceLength b → every residue (f .replacement) ≡ true → FormedRecord c (issued b)
+  new-record order inside letters =
+      record {
+        ordered = rw (← add-one (issued b)) (omega (arith, r .start, r .end));
+        inside = rw (← add-one (issued b)) (omega (arith, r .end, r .stays .frame .reference));
+        status = rw (← add-one (issued b), r .now) (omega arith);
+        offset = rw (← add-one (issued b)) (r .offset ∙ sym lengths-before);
+        residues = rw (← add-one (issued b), r .replacement) letters;
+      }
+
+  records-next : FormedRecord c (issued b) → (k : ℕ) → k < issued c → FormedRecord c k
+  records-next new k l =
+      let g = formed b w in
+      ⊎-elim
+      (λ e. subst (FormedRecord c) (sym e) new)
+      (λ h. record-stays b c g (r .stays) k h (omega (arith, r .statuses (suc k) (omega arith) h, g .records k h .status)))
+      (eq-or-lt-of-le (let h : k ≤ issued b = omega (arith, r .numbers) in h))
+
+  pub issues-formed : f .start ≤ f .end → f .end ≤ referenceLength b → every residue (f .replacement) ≡ true → issued b < recordCapacity b
+      → journalCount b < journalCapacity b → poolUsed b + length (f .replacement) ≤ poolCapacity b → wellFormed c ≡ true
+  issues-formed order inside letters records journal pool =
+      let g = formed b w in
+      let s = r .stays in
+      stay-formed b c g s
+      (header-stays b c g s (omega arith) (omega (arith, r .count)) (omega (arith, r .used)))
+      (records-next (new-record order inside letters))
+      lengths-all
+      (entries-next b c g s (issued b + 1) (omega arith) (omega arith) (omega arith) (r .count) (r .last))

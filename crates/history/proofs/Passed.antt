@@ -1,0 +1,134 @@
+-- What a call that keeps its promise came to, and what an accepted one tells of the image.
+use Prim.Native.Nat.{ℕ, _+_, _<_, _≤_}
+use native.Mathlib.Omega.{arith}
+use mathlib.Core.Path.{_≡_, refl}
+use mathlib.Core.Bool.{true, false, not}
+use mathlib.Core.List.{List, [], _∷_, _++_}
+use mathlib.Core.Logic.{_⊎_, inl, inr}
+use lib.Dec.{leb, ltb, eqb}
+use lib.ListN.{length}
+use borrow.Author.Tests.{not-false, leb-false, ltb-false, eqb-true, eqb-false}
+use Rattle.stretch.specs.Same.{same}
+use Rattle.refusal.specs.Limits.{referenceLimit}
+use Rattle.refusal.specs.Verdict.{Verdict, accepted, refused, verdict, ground}
+use Rattle.refusal.specs.declared.Refusal.{Refusal}
+use Rattle.refusal.proofs.Verdict.{none-holds, verdict-fewer, verdict-later}
+use Rattle.letters.specs.Letters.{base64url, every, firstOutside, digestTextGrounds}
+use Rattle.letters.proofs.Outside.{firstOutside-le, firstOutside-all}
+use Rattle.normal.specs.Form.{Normal, altered, normal}
+use Rattle.normal.specs.Calls.{formGrounds}
+use Rattle.image.specs.Fields.{countLimit, poolLimit, imageSize, recordCapacity, issued, journalCapacity, journalCount, poolCapacity, poolUsed, referenceLength, statusOf, active}
+use Rattle.image.specs.Formed.{wellFormed}
+use Rattle.register.specs.declared.Entered.{Entered}
+use Rattle.register.specs.declared.Entered.the-variants.{New, Again, Known}
+use Rattle.register.specs.Found.{found}
+use Rattle.register.specs.Calls.{Does, blankGrounds, withdrawalGrounds, undoGrounds, notFormed, imageGrounds, changeGrounds, roomGrounds, entryGrounds}
+
+-- accepted, with what it says; or refused, with the image as it was
+pub record Done {A : Type 0} (v : Verdict) (said : A) (changed : List ℕ) (answer : A) (left : List ℕ) : Type 0 where
+  pub passed : v ≡ accepted
+  pub answers : answer ≡ said
+  pub leaves : left ≡ changed
+
+pub record Left {A : Type 0} (refuses : Refusal → A) (b : List ℕ) (answer : A) (left : List ℕ) : Type 0 where
+  pub why : Refusal
+  pub answers : answer ≡ refuses why
+  pub leaves : left ≡ b
+
+pub done-or-left : {A : Type 0} (refuses : Refusal → A) (v : Verdict) (said : A) (b changed : List ℕ) (answer : A) (left : List ℕ)
+    → Does refuses v said b changed answer left → Done v said changed answer left ⊎ Left refuses b answer left
+done-or-left refuses accepted said b changed answer left p = inl (record { passed = refl; answers = p .answers; leaves = p .leaves })
+done-or-left refuses (refused r) said b changed answer left p = inr (record { why = r; answers = p .answers; leaves = p .leaves })
+
+-- an accepted blank: the reference's length and the capacities within their limits, 32 base64url characters, and room
+pub record Blankable (room n : ℕ) (digest : List ℕ) (records journal pool : ℕ) : Type 0 where
+  pub reference : n ≤ referenceLimit
+  pub long : length digest ≡ 32
+  pub characters : every base64url digest ≡ true
+  pub records-limit : records ≤ countLimit
+  pub journal-limit : journal ≤ countLimit
+  pub pool-limit : pool ≤ poolLimit
+  pub fits : imageSize records journal pool ≤ room
+
+pub blankable : (room n : ℕ) (digest : List ℕ) (records journal pool : ℕ) → verdict (blankGrounds room n digest records journal pool) ≡ accepted
+    → Blankable room n digest records journal pool
+unfolding blankGrounds digestTextGrounds
+blankable room n digest records journal pool v =
+    let one = ground (ltb referenceLimit n) 1 0 ∷ [] in
+    let size = imageSize records journal pool in
+    let nine =
+    ground (ltb countLimit records) 9 0
+    ∷ ground (ltb countLimit journal) 9 0
+    ∷ ground (ltb poolLimit pool) 9 0
+    ∷ ground (ltb room size) 9 size
+    ∷ [] in
+    let rest = verdict-later one (digestTextGrounds digest ++ nine) v in
+    let seven = verdict-fewer (digestTextGrounds digest) nine rest in
+    let last = verdict-later (digestTextGrounds digest) nine rest in
+    let outside = ltb-false (firstOutside base64url digest) (length digest) (none-holds (digestTextGrounds digest) seven 1) in
+    record {
+      reference = ltb-false referenceLimit n (none-holds one (verdict-fewer one (digestTextGrounds digest ++ nine) v) 0);
+      long = eqb-true (length digest) 32 (not-false _ (none-holds (digestTextGrounds digest) seven 0));
+      characters = firstOutside-all base64url digest (omega (arith, outside, firstOutside-le base64url digest));
+      records-limit = ltb-false countLimit records (none-holds nine last 0);
+      journal-limit = ltb-false countLimit journal (none-holds nine last 1);
+      pool-limit = ltb-false poolLimit pool (none-holds nine last 2);
+      fits = ltb-false room size (none-holds nine last 3);
+    }
+
+pub record Withdrawable (b : List ℕ) (i : ℕ) : Type 0 where
+  pub formed : wellFormed b ≡ true
+  pub from : 1 ≤ i
+  pub to : i ≤ issued b
+  pub on : statusOf b i ≡ active
+  pub room : journalCount b < journalCapacity b
+
+pub withdrawable : (b : List ℕ) (i : ℕ) → verdict (withdrawalGrounds b i) ≡ accepted → Withdrawable b i
+unfolding withdrawalGrounds
+withdrawable b i v =
+    record {
+      formed = not-false _ (none-holds (withdrawalGrounds b i) v 0);
+      from = let e = eqb-false i 0 (none-holds (withdrawalGrounds b i) v 1) in omega (arith, e);
+      to = ltb-false _ _ (none-holds (withdrawalGrounds b i) v 2);
+      on = eqb-true _ _ (not-false _ (none-holds (withdrawalGrounds b i) v 3));
+      room = leb-false _ _ (none-holds (withdrawalGrounds b i) v 4);
+    }
+
+pub record Undoable (b : List ℕ) : Type 0 where
+  pub formed : wellFormed b ≡ true
+  pub some : 1 ≤ journalCount b
+
+pub undoable : (b : List ℕ) → verdict (undoGrounds b) ≡ accepted → Undoable b
+unfolding undoGrounds
+undoable b v =
+    record {
+      formed = not-false _ (none-holds (undoGrounds b) v 0);
+      some = let e = eqb-false (journalCount b) 0 (none-holds (undoGrounds b) v 1) in omega (arith, e);
+    }
+
+pub sealable : (b : List ℕ) → verdict (notFormed b ∷ []) ≡ accepted → wellFormed b ≡ true
+sealable b v = not-false _ (none-holds (notFormed b ∷ []) v 0)
+
+-- an accepted entry: a well-formed image of this reference, and a changed allele that passes the normal form's tests
+pub record Enterable (b r : List ℕ) (start end : ℕ) (x : List ℕ) : Type 0 where
+  pub formed : wellFormed b ≡ true
+  pub reference : length r ≡ referenceLength b
+  pub form : verdict (formGrounds r start end x) ≡ accepted
+  pub changed : same r (altered r start end x) ≡ false
+  pub room : verdict (roomGrounds b (normal r start end x) (found b (normal r start end x))) ≡ accepted
+
+pub enterable : (b digest r : List ℕ) (start end : ℕ) (x : List ℕ) → verdict (entryGrounds b digest r start end x) ≡ accepted → Enterable b r start end x
+unfolding entryGrounds imageGrounds changeGrounds
+enterable b digest r start end x v =
+    let room = roomGrounds b (normal r start end x) (found b (normal r start end x)) in
+    let unchanged = ground (same r (altered r start end x)) 12 0 ∷ [] in
+    let image = verdict-fewer (imageGrounds b digest r) (changeGrounds r start end x ++ room) v in
+    let rest = verdict-later (imageGrounds b digest r) (changeGrounds r start end x ++ room) v in
+    let change = verdict-fewer (changeGrounds r start end x) room rest in
+    record {
+      formed = not-false _ (none-holds (imageGrounds b digest r) image 0);
+      reference = eqb-true _ _ (not-false _ (none-holds (imageGrounds b digest r) image 2));
+      form = verdict-fewer (formGrounds r start end x) unchanged change;
+      changed = none-holds unchanged (verdict-later (formGrounds r start end x) unchanged change) 0;
+      room = verdict-later (changeGrounds r start end x) room rest;
+    }

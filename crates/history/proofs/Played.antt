@@ -1,0 +1,76 @@
+-- Document 01's register example, computed.
+use mathlib.Core.Path.{refl}
+use Rattle.stretch.specs.Below.{below}
+use Rattle.stretch.specs.Common.{lcp, lcs}
+use Rattle.stretch.specs.Over.{over}
+use Rattle.stretch.specs.Same.{same}
+use Rattle.refusal.specs.declared.Outcome.the-variants.{Accepted}
+use Rattle.letters.specs.Letters.{residue, base64url, every, firstOutside, digestTextGrounds}
+use Rattle.normal.specs.Form.{altered, shorter, within, ahead, behind, kindIn, kindOf, changedForm, normal}
+use Rattle.normal.specs.Calls.{formGrounds}
+use Rattle.image.specs.Numbers.{little, bytes, number, numbers, put}
+use Rattle.image.specs.Fields.{headerOf, recordAt, recordOf, replacementOf}
+use Rattle.image.specs.Formed.{laidOut, countsWithin, withinLimits, lengths, recordGood, entryGood, wellFormed}
+use Rattle.register.specs.declared.Entered.the-variants.{New, Again, Known, Refused}
+use Rattle.register.specs.declared.Undone.the-variants.{Number}
+use Rattle.records.specs.Lookup.{holds, lowest, lowestHolding}
+use Rattle.register.specs.Found.{found}
+use Rattle.records.specs.Changes.{blanked, journalled, marked, withdrawn, reentered, recorded, pooled, counted, numbered, latest, undone, sealed}
+use Rattle.register.specs.Calls.{Blanks, blankGrounds, imageGrounds, changeGrounds, entryGrounds, Enters, withdrawalGrounds, Withdraws, undoGrounds, Undoes, Seals}
+use Rattle.history.specs.Runs.{Run, enters, withdraws, undoes, seals}
+use Rattle.history.specs.Example.{Played, reference, digest, events, blank, one, oneUndone, two, oneAgain, oneWithdrawn, closed}
+
+pub played : Played
+unfolding below lcp lcs over same residue base64url every firstOutside digestTextGrounds altered shorter within ahead behind kindIn kindOf changedForm normal formGrounds little bytes number numbers put headerOf recordAt recordOf replacementOf laidOut countsWithin withinLimits lengths recordGood entryGood wellFormed holds lowest lowestHolding found blanked journalled marked withdrawn reentered recorded pooled counted numbered latest undone sealed blankGrounds imageGrounds changeGrounds entryGrounds Enters withdrawalGrounds Withdraws undoGrounds Undoes Seals blank one oneUndone two oneAgain oneWithdrawn closed
+played =
+    record {
+      first = record { answers = refl; leaves = refl };
+      case-1 = record { answers = refl; leaves = refl };
+      undone-1 = record { answers = refl; leaves = refl };
+      case-4 = record { answers = refl; leaves = refl };
+      case-2 = record { answers = refl; leaves = refl };
+      case-6 = record { answers = refl; leaves = refl };
+      case-5 = record { answers = refl; leaves = refl };
+      withdrawn-1 = record { answers = refl; leaves = refl };
+      sealed-all = record { answers = refl; leaves = refl };
+    }
+
+-- so each kind of call is accepted in some run from a blank image
+pub played-run : Run reference blank events closed
+played-run =
+    record {
+      image = oneWithdrawn;
+      call = seals Accepted (played .sealed-all) refl;
+      before =
+          record {
+            image = oneAgain;
+            call = withdraws 1 Accepted (played .withdrawn-1) refl;
+            before =
+                record {
+                  image = oneAgain;
+                  call = enters digest 1 5 _ (Known 2) (played .case-5) refl;
+                  before =
+                      record {
+                        image = oneAgain;
+                        call = enters digest 3 5 _ _ (played .case-6) refl;
+                        before =
+                            record {
+                              image = two;
+                              call = enters digest 1 2 _ (Again 1) (played .case-2) refl;
+                              before =
+                                  record {
+                                    image = oneUndone;
+                                    call = enters digest 2 3 _ (New 2) (played .case-4) refl;
+                                    before =
+                                        record {
+                                          image = one;
+                                          call = undoes (Number 1) (played .undone-1) refl;
+                                          before =
+                                              record { image = blank; call = enters digest 4 4 _ (New 1) (played .case-1) refl; before = refl };
+                                        };
+                                  };
+                            };
+                      };
+                };
+          };
+    }

@@ -1,0 +1,110 @@
+-- What an image shows, and how the changes that are seen of it move that.
+use Prim.Native.Nat.{ℕ, suc, _+_, _<_, _≤_}
+use native.Mathlib.Omega.{arith}
+use native.Mathlib.Nat.{eq-or-lt-of-le}
+use mathlib.Core.Path.{_≡_, _∙_, sym, ap, subst}
+use mathlib.Core.Bool.{false}
+use mathlib.Core.Logic.{⊎-elim}
+use mathlib.Core.List.{List}
+use Rattle.stretch.specs.Same.{same}
+use Rattle.normal.specs.Form.{Normal, altered, changedForm, normal}
+use Rattle.image.specs.Fields.{issued, journalCount, statusOf, entryOf}
+use Rattle.history.specs.Demand.{Live, sequenceOf}
+use Rattle.history.proofs.Proper.{Has, Proper, has-stands, has-proper}
+use Rattle.history.proofs.Seen.{Kept, Stays, Restated, Journalled, TakenBack, Closed, Issues}
+use Rattle.history.proofs.View.{View, Keeps, Changes, Sealed}
+
+abbrev pub shows : List ℕ → List ℕ → View
+shows r b = record { Live = Live b; sequence = sequenceOf r b; status = statusOf b; count = journalCount b; journal = entryOf b }
+
+module _ (r b c : List ℕ) (i : ℕ) (kept : Kept b c i) where
+  pub kept-sequence : sequenceOf r c i ≡ sequenceOf r b i
+  kept-sequence = λ k. altered r (kept .start k) (kept .end k) (kept .replacement k)
+
+  pub kept-proper : Proper r b i → Proper r c i
+  kept-proper p =
+      let f = changedForm r (sequenceOf r b i) in
+      let has : Has c i f
+      = record {
+        start = kept .start ∙ p .form .start;
+        end = kept .end ∙ p .form .end;
+        replacement = kept .replacement ∙ p .form .replacement;
+      } in
+      record {
+        changed = rw kept-sequence (p .changed);
+        form = subst (λ (t : List ℕ). Has c i (changedForm r t)) (sym kept-sequence) has;
+      }
+
+module _ (b c : List ℕ) (same-numbers : issued c ≡ issued b) where
+  pub live-on : (i : ℕ) → Live b i → Live c i
+  live-on i l = record { from = l .from; to = rw same-numbers (l .to) }
+
+  pub live-back : (i : ℕ) → Live c i → Live b i
+  live-back i l = record { from = l .from; to = rw same-numbers at (l .to) }
+
+-- every record is proper, and the numbers are the same
+pub stays-proper : (r b c : List ℕ) → Stays b c → issued c ≡ issued b → ((i : ℕ) → Live b i → Proper r b i) → (i : ℕ) → Live c i → Proper r c i
+stays-proper r b c s e p i l = let m = live-back b c e i l in kept-proper r b c i (s .kept i (m .from) (m .to)) (p i m)
+
+module _ (r b c : List ℕ) (i status : ℕ) where
+  pub restated-keeps : Restated b c i status → Keeps (shows r b) (shows r c) i
+  restated-keeps s =
+      record {
+        lives = live-on b c (s .numbers);
+        lived = λ j n. live-back b c (s .numbers) j;
+        sequences = λ j l. kept-sequence r b c j (s .stays .kept j (l .from) (l .to));
+        statuses = λ j l. s .others j (l .from) (l .to);
+        journals = s .stays .entries;
+      }
+
+  pub journalled-changes : Live b i → Journalled b c i status → Changes (shows r b) (shows r c) i status
+  journalled-changes l s =
+      record {
+        keeps = restated-keeps (s .restated);
+        lives = live-on b c (s .restated .numbers) i l;
+        now = s .restated .now;
+        count = omega (arith, s .count);
+        last = s .last;
+      }
+
+pub closed-sealed : (r b c : List ℕ) → Closed b c → Sealed (shows r b) (shows r c)
+closed-sealed r b c s =
+    record {
+      count = s .count;
+      nought = λ l. omega (arith, l .from);
+      keeps = record {
+        lives = live-on b c (s .numbers);
+        lived = λ j n. live-back b c (s .numbers) j;
+        sequences = λ j l. kept-sequence r b c j (s .stays .kept j (l .from) (l .to));
+        statuses = λ j l n. s .statuses j (l .from) (l .to);
+        journals = s .stays .entries;
+      };
+    }
+
+module _ (r b c : List ℕ) (f : Normal) (s : Issues b c f) where
+  pub issues-live : Live c (issued b + 1)
+  issues-live = record { from = omega arith; to = rw (s .numbers) (omega arith) }
+
+  -- a number is an old one or the one that is issued
+  pub issues-cases : {C : Type 0} (j : ℕ) → Live c j → (Live b j → C) → (j ≡ issued b + 1 → C) → C
+  issues-cases j l old next =
+      ⊎-elim next (λ m. old (record { from = l .from; to = omega (arith, m) })) (eq-or-lt-of-le (rw (s .numbers) at (l .to)))
+
+  pub issues-changes : Changes (shows r b) (shows r c) (issued b + 1) 1
+  issues-changes =
+      record {
+        keeps = record {
+          lives = λ j l. record { from = l .from; to = rw (s .numbers) (omega (arith, l .to)) };
+          lived = λ j n l. issues-cases j l (λ m. m) (λ e. absurd (n e));
+          sequences = λ j l. kept-sequence r b c j (s .stays .kept j (l .from) (l .to));
+          statuses = λ j l n. s .statuses j (l .from) (l .to);
+          journals = s .stays .entries;
+        };
+        lives = issues-live;
+        now = s .now;
+        count = omega (arith, s .count);
+        last = s .last;
+      }
+
+  pub issues-has : Has c (issued b + 1) f
+  issues-has = record { start = s .start; end = s .end; replacement = s .replacement }

@@ -1,0 +1,52 @@
+-- Demand 3, of an image that a history led to.
+use Prim.Native.Nat.{ℕ, _≤_}
+use mathlib.Core.Path.{_≡_}
+use mathlib.Core.Bool.{true}
+use mathlib.Core.Logic.{_↔_}
+use mathlib.Core.List.{List}
+use Rattle.normal.specs.Form.{altered}
+use Rattle.image.specs.Fields.{issued, journalCount, startOf, endOf, statusOf, replacementOf, active}
+use Rattle.history.specs.Events.{Way, Event, entry, new, Occurs, standing, latestNumber, unsealed, meant, replayed}
+
+-- a number stands for something: it is issued
+pub record Live (b : List ℕ) (i : ℕ) : Type 0 where
+  pub from : 1 ≤ i
+  pub to : i ≤ issued b
+
+-- the altered sequence of a number's record
+abbrev pub sequenceOf : List ℕ → List ℕ → ℕ → List ℕ
+sequenceOf r b i = altered r (startOf b i) (endOf b i) (replacementOf b i)
+
+-- a number stands for this sequence, and is active
+pub record Active (r b : List ℕ) (i : ℕ) (t : List ℕ) : Type 0 where
+  pub live : Live b i
+  pub on : statusOf b i ≡ active
+  pub stands : sequenceOf r b i ≡ t
+
+pub record SomeActive (r b t : List ℕ) : Type 0 where
+  pub number : ℕ
+  pub shown : Active r b number t
+
+pub record Demand (r : List ℕ) (h : List Event) (b : List ℕ) : Type 0 where
+  -- the changes that stand, replayed on an empty set, give exactly the altered sequences of the active numbers
+  pub replays : (t : List ℕ) → (replayed (meant h) (standing h) t ≡ true) ↔ SomeActive r b t
+  -- of two accepted entries, the numbers are one exactly when the altered sequences are
+  pub one : (w v : Way) (i j : ℕ) (t u : List ℕ) → Occurs (entry w i t) h → Occurs (entry v j u) h → (i ≡ j) ↔ (t ≡ u)
+  -- a number that was answered stands for that entry's altered sequence ever since
+  pub stays : (w : Way) (i : ℕ) (t : List ℕ) → Occurs (entry w i t) h → Live b i × (sequenceOf r b i ≡ t)
+  -- the changes that an undo can take back are those since the last seal
+  pub journal : journalCount b ≡ unsealed h
+
+-- and of the entry that was accepted last
+pub record EntryDemand (r : List ℕ) (h : List Event) (b : List ℕ) (w : Way) (i : ℕ) (t : List ℕ) : Type 0 where
+  -- its number is active and has its sequence
+  pub active : Active r b i t
+  -- its number is an earlier one exactly when the entry that issued that one made the same sequence
+  pub earlier : (j : ℕ) (u : List ℕ) → Occurs (entry new j u) h → (i ≡ j) ↔ (t ≡ u)
+  -- and it is new exactly when none did
+  pub first : (w ≡ new) ↔ ((v : Way) (u : List ℕ) → Occurs (entry v i u) h → ⊥)
+
+-- and of the undo that was accepted last: it took back the latest change that stood, which was not sealed, and answered its number
+pub record UndoDemand (h : List Event) (i : ℕ) : Type 0 where
+  pub latest : latestNumber (standing h) ≡ i
+  pub unsealed-one : 1 ≤ unsealed h

@@ -1,0 +1,47 @@
+-- How calls on an image make a history: by their own promises, one reference being lent to all of them.
+use Prim.Native.Nat.{ℕ}
+use mathlib.Core.Path.{_≡_}
+use mathlib.Core.List.{List, [], _∷_}
+use Rattle.refusal.specs.declared.Outcome.{Outcome}
+use Rattle.refusal.specs.declared.Outcome.the-variants.{Accepted, Refused}
+use Rattle.normal.specs.Form.{altered}
+use Rattle.register.specs.declared.Entered.{Entered}
+use Rattle.register.specs.declared.Entered.the-variants.{New, Again, Known, Refused as Unentered}
+use Rattle.register.specs.declared.Undone.{Undone}
+use Rattle.register.specs.declared.Undone.the-variants.{Number, Refused as NotUndone}
+use Rattle.register.specs.Calls.{Enters, Withdraws, Undoes, Seals}
+use Rattle.history.specs.Events.{Event, entry, withdrawal, undo, seal, refusal, new, again, known}
+
+-- what an answer is in the history
+abbrev pub entryEvent : List ℕ → Entered → Event
+entryEvent t (New i) = entry new i t
+entryEvent t (Again i) = entry again i t
+entryEvent t (Known i) = entry known i t
+entryEvent t (Unentered r) = refusal
+
+abbrev pub undoEvent : Undone → Event
+undoEvent (Number i) = undo i
+undoEvent (NotUndone r) = refusal
+
+abbrev pub outcomeEvent : Event → Outcome → Event
+outcomeEvent e Accepted = e
+outcomeEvent e (Refused r) = refusal
+
+-- a call that keeps its promise on an image b, answers what the event tells, and leaves another image
+pub data Call (r b : List ℕ) (e : Event) (left : List ℕ) : Type 0 where
+  enters : (digest : List ℕ) (start end : ℕ) (x : List ℕ) (answer : Entered)
+      → Enters b digest r start end x answer left → e ≡ entryEvent (altered r start end x) answer → Call r b e left
+  withdraws : (i : ℕ) (answer : Outcome) → Withdraws b i answer left → e ≡ outcomeEvent (withdrawal i) answer → Call r b e left
+  undoes : (answer : Undone) → Undoes b answer left → e ≡ undoEvent answer → Call r b e left
+  seals : (answer : Outcome) → Seals b answer left → e ≡ outcomeEvent seal answer → Call r b e left
+
+-- a call behind what came before it
+pub record Then (Before : List ℕ → Type 0) (r : List ℕ) (e : Event) (left : List ℕ) : Type 0 where
+  pub image : List ℕ
+  pub before : Before image
+  pub call : Call r image e left
+
+-- calls that lead from an image b to another, and their history, the latest first
+abbrev pub Run : List ℕ → List ℕ → List Event → List ℕ → Type 0
+Run r b [] left = left ≡ b
+Run r b (e ∷ h) left = Then (Run r b h) r e left

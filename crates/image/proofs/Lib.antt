@@ -1,0 +1,9 @@
+pub mod Numbers
+pub mod Patched
+pub mod Spared
+pub mod Tests
+pub mod Pool
+pub mod Journal
+pub mod Tested
+pub mod WellFormed
+pub mod Lengths

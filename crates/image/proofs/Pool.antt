@@ -1,0 +1,90 @@
+-- The letters of the pool: where the records' parts of it lie one behind the other, all records' letters are tested in one pass.
+use Prim.Native.Nat.{ℕ, zero, suc, _+_, _<_}
+use native.Mathlib.Nat.{add-sub-cancel-left}
+use native.Mathlib.Numerals.{add-one}
+use native.Mathlib.Omega.{arith}
+use mathlib.Core.Path.{_≡_, refl, _∙_, ap}
+use mathlib.Core.Bool.{Bool, true, false, cond}
+use mathlib.Core.List.{List, [], _∷_, _++_}
+use borrow.Author.Tests.{eqb-true}
+use lib.Dec.{leb, eqb}
+use lib.ListN.{drop}
+use lib.Seq.{take-add, drop-drop}
+use Rattle.stretch.specs.Below.{below}
+use Rattle.stretch.specs.Part.{part}
+use Rattle.stretch.proofs.Below.{below-at, below-first, below-fails}
+use Rattle.letters.specs.Letters.{residue, every}
+use Rattle.letters.proofs.Class.{every-append}
+use Rattle.image.specs.Numbers.{number}
+use Rattle.image.specs.Fields.{issued, poolUsed, recordAt, poolAt, referenceLength, startOf, endOf, offsetOf, lengthOf, statusOf, replacementOf}
+use Rattle.image.specs.Formed.{all, lengths, recordGood}
+use Rattle.image.proofs.Tests.{all-append, all-one, both, last}
+
+-- the tests of the record behind the first k, but for its letters
+abbrev placedTests : List ℕ → ℕ → List Bool
+placedTests b k =
+    leb (startOf b (suc k)) (endOf b (suc k))
+    ∷ leb (endOf b (suc k)) (referenceLength b)
+    ∷ leb (statusOf b (suc k)) 1
+    ∷ eqb (offsetOf b (suc k)) (lengths b k)
+    ∷ []
+
+unfoldable pub placed : List ℕ → ℕ → Bool
+placed b k = all (placedTests b k)
+
+good-placed : (b : List ℕ) (k : ℕ) → recordGood b k ≡ cond (placed b k) (every residue (replacementOf b (suc k))) false
+unfolding recordGood placed
+good-placed b k =
+    let letters = every residue (replacementOf b (suc k)) in
+    all-append (placedTests b k) (letters ∷ []) ∙ ap (λ (t : Bool). cond (all (placedTests b k)) t false) (all-one letters)
+
+offset : (b : List ℕ) (k : ℕ) → placed b k ≡ true → offsetOf b (suc k) ≡ lengths b k
+unfolding placed
+offset b k h =
+    let order = both (leb (startOf b (suc k)) (endOf b (suc k))) _ h in
+    let within = both (leb (endOf b (suc k)) (referenceLength b)) _ (order .1) in
+    let status = both (leb (statusOf b (suc k)) 1) _ (within .1) in
+    eqb-true _ _ (last _ (status .1))
+
+part-join : (b : List ℕ) (at m n : ℕ) → part b at (at + (m + n)) ≡ part b at (at + m) ++ part b (at + m) (at + m + n)
+part-join b at m n =
+    rw (add-sub-cancel-left at (m + n), add-sub-cancel-left at m, add-sub-cancel-left (at + m) n, take-add m n (drop at b), drop-drop m at b)
+
+cond-swap : (p q : Bool) → cond p q false ≡ cond q p false
+cond-swap true true = refl
+cond-swap true false = refl
+cond-swap false true = refl
+cond-swap false false = refl
+
+-- the pool's letters behind the first n records
+good-pool : (b : List ℕ) (n : ℕ) → below (placed b) n ≡ true → below (recordGood b) n ≡ every residue (part b (poolAt b) (poolAt b + lengths b n))
+unfolding below lengths replacementOf every
+good-pool b zero h = rw (add-sub-cancel-left (poolAt b) 0)
+good-pool b (suc n) h =
+    let here : placed b n ≡ true = below-at (placed b) (suc n) h n (omega arith) in
+    let at = poolAt b + lengths b n in
+    rw (good-placed b n, here, offset b n here, good-pool b n (below-first (placed b) n h))
+    (rw (part-join b (poolAt b) (lengths b n) (lengthOf b (suc n)), every-append)
+    (cond-swap (every residue (part b at (at + lengthOf b (suc n)))) (every residue (part b (poolAt b) at))))
+
+-- the loop over the records: one as the code tests it, one more, one that is not placed, and the end
+pub placed-at : (b : List ℕ) (k at reference before : ℕ) → at ≡ recordAt (k + 1) → reference ≡ referenceLength b → before ≡ lengths b k
+    → all (leb (number b at) (number b (at + 4)) ∷ leb (number b (at + 4)) reference ∷ leb (number b (at + 16)) 1 ∷ eqb (number b (at + 8)) before ∷ [])
+    ≡ placed b k
+unfolding placed
+placed-at b k at reference before p q r = rw (p, q, r, add-one k)
+
+pub lengths-next : (b : List ℕ) (k at before : ℕ) → at ≡ recordAt (k + 1) → before ≡ lengths b k → before + number b (at + 12) ≡ lengths b (k + 1)
+unfolding lengths
+lengths-next b k at before p q = rw (p, q, add-one k)
+
+module _ (b : List ℕ) where
+  pub records-bad : (k : ℕ) → k < issued b → placed b k ≡ false
+      → cond (below (recordGood b) (issued b)) (eqb (lengths b (issued b)) (poolUsed b)) false ≡ false
+  records-bad k l e = rw (below-fails (recordGood b) (issued b) k l (good-placed b k ∙ rw e))
+
+  pub records-end : (letters : ℕ) → letters ≡ lengths b (issued b) → below (placed b) (issued b) ≡ true
+      → cond (eqb letters (poolUsed b)) (every residue (part b (poolAt b) (poolAt b + letters))) false
+      ≡ cond (below (recordGood b) (issued b)) (eqb (lengths b (issued b)) (poolUsed b)) false
+  records-end letters e h =
+      rw (e, ← good-pool b (issued b) h) (cond-swap (eqb (lengths b (issued b)) (poolUsed b)) (below (recordGood b) (issued b)))

@@ -1,0 +1,67 @@
+-- The tests of well-formedness in the order of the code, and what the header's say where they pass.
+use Prim.Native.Nat.{ℕ, _+_}
+use mathlib.Core.Path.{_≡_}
+use mathlib.Core.Bool.{Bool, true, false, cond}
+use mathlib.Core.List.{List, [], _∷_, _++_}
+use lib.Dec.{leb, eqb}
+use lib.ListN.{length}
+use borrow.Author.Tests.{leb-true, eqb-true}
+use Rattle.stretch.specs.Below.{below}
+use Rattle.letters.specs.Letters.{base64url, every}
+use Rattle.image.specs.Fields.{headerSize, edition, issued, recordsAt, journalCount, poolCapacity, poolUsed, poolAt, sequenceDigest}
+use Rattle.image.specs.Formed.{all, laidOut, countsWithin, withinLimits, lengths, recordGood, entryGood, wellFormed}
+use Rattle.image.specs.Header.{Header}
+use Rattle.image.proofs.Tests.{all-append, all-one, both, last}
+
+abbrev pub headTests : List ℕ → List Bool
+headTests b =
+    laidOut b
+    ∷ countsWithin b
+    ∷ withinLimits b
+    ∷ every base64url (sequenceDigest b)
+    ∷ leb (poolAt b + poolCapacity b) (length b)
+    ∷ []
+
+abbrev recordTests : List ℕ → List Bool
+recordTests b = below (recordGood b) (issued b) ∷ eqb (lengths b (issued b)) (poolUsed b) ∷ []
+
+-- the tests in the order of the code: the bytes of a header, the header, the records and their letters, the journal
+pub formed-steps : (b : List ℕ)
+    → wellFormed b
+    ≡ cond (leb headerSize (length b))
+    (cond (all (headTests b))
+    (cond (cond (below (recordGood b) (issued b)) (eqb (lengths b (issued b)) (poolUsed b)) false) (below (entryGood b) (journalCount b)) false) false)
+    false
+unfolding wellFormed
+formed-steps b =
+    let entries = below (entryGood b) (journalCount b) in
+    rw (all-append (headTests b) (recordTests b ++ (entries ∷ [])), all-append (recordTests b) (entries ∷ []))
+    (rw (all-one entries, all-one (eqb (lengths b (issued b)) (poolUsed b))))
+
+pub header-tested : (b : List ℕ) → all (headTests b) ≡ true → Header b
+unfolding laidOut countsWithin withinLimits
+header-tested b h =
+    let laid = both (laidOut b) _ h in
+    let counts = both _ _ (laid .1) in
+    let limits = both _ _ (counts .1) in
+    let digest = both (every base64url (sequenceDigest b)) _ (limits .1) in
+    let edition-first = both (eqb (edition b) 1) _ (laid .0) in
+    let records-at = both (eqb (recordsAt b) headerSize) _ (edition-first .1) in
+    let journal-at = both _ _ (records-at .1) in
+    let records = both _ _ (counts .0) in
+    let journalled = both _ _ (records .1) in
+    let records-limit = both _ _ (limits .0) in
+    let journal-limit = both _ _ (records-limit .1) in
+    let pool-limit = both _ _ (journal-limit .1) in
+    record {
+      journal = eqb-true _ _ (journal-at .0);
+      pool = eqb-true _ _ (last _ (journal-at .1));
+      records = leb-true _ _ (records .0);
+      journalled = leb-true _ _ (journalled .0);
+      used = leb-true _ _ (last _ (journalled .1));
+      records-limit = leb-true _ _ (records-limit .0);
+      journal-limit = leb-true _ _ (journal-limit .0);
+      pool-limit = leb-true _ _ (pool-limit .0);
+      reference-limit = leb-true _ _ (last _ (pool-limit .1));
+      whole = leb-true _ _ (last _ (digest .1));
+    }

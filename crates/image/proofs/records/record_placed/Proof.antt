@@ -1,0 +1,49 @@
+-- The tests of the numbers that were read.
+use borrow.Author.Needs.{needs}
+use Prim.Native.Nat.{_+_}
+use lib.Dec.{leb, eqb}
+use Rattle.image.specs.Numbers.{number}
+use Rattle.image.proofs.Tests.{all-four}
+use Rattle.image.proofs.records.record_placed.Statement.{statement}
+use Rattle.image.proofs.records.record_placed.Tie as tie
+
+add-read-number : tie.Need-add-read-number
+add-read-number c = search needs
+
+read-number-requires : tie.Need-read-number-requires
+read-number-requires c κs = search needs
+
+read-number-requires-2 : tie.Need-read-number-requires-2
+read-number-requires-2 c κs = search needs
+
+add-read-number-2 : tie.Need-add-read-number-2
+add-read-number-2 c = search needs
+
+read-number-requires-3 : tie.Need-read-number-requires-3
+read-number-requires-3 c κs = search needs
+
+add-read-number-3 : tie.Need-add-read-number-3
+add-read-number-3 c = search needs
+
+read-number-requires-4 : tie.Need-read-number-requires-4
+read-number-requires-4 c κs = search needs
+
+returns : tie.Need-returns
+returns c =
+    let s = c .before .before .before .before .before .args in
+    let b = s .image .now in
+    let end = number b (s .at + 4) in
+    cc (all-four (leb (number b (s .at)) end) (leb end (s .reference)) (leb (number b (s .at + 16)) 1) (eqb (number b (s .at + 8)) (s .before)))
+
+pub record-placed-spec : {M : Type 1} → statement M
+record-placed-spec =
+    tie.close
+    (tie.spec
+    add-read-number
+    read-number-requires
+    read-number-requires-2
+    add-read-number-2
+    read-number-requires-3
+    add-read-number-3
+    read-number-requires-4
+    returns)

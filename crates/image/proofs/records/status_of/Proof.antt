@@ -1,0 +1,20 @@
+-- The number at the record's place.
+use borrow.Author.Needs.{needs}
+use Rattle.image.proofs.records.status_of.Statement.{statement}
+use Rattle.image.proofs.records.status_of.Tie as tie
+
+record-at-requires : tie.Need-record-at-requires
+record-at-requires c κs = search needs
+
+add-read-number : tie.Need-add-read-number
+add-read-number c = search needs
+
+read-number-requires : tie.Need-read-number-requires
+read-number-requires c κs = search needs
+
+returns : tie.Need-returns
+returns c = rw (c .read-number .ensures .0, c .before .record-at .ensures .0)
+
+pub status-of-spec : {M : Type 1} → statement M
+status-of-spec =
+    tie.close (tie.spec record-at-requires add-read-number read-number-requires returns)

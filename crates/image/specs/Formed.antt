@@ -1,0 +1,78 @@
+-- Document 01, "The register image": when an image is well formed.
+use Prim.Native.Nat.{ℕ, zero, suc, _+_, _*_}
+use mathlib.Core.Bool.{Bool, true, false, cond}
+use mathlib.Core.List.{List, [], _∷_}
+use lib.Dec.{leb, eqb}
+use lib.ListN.{length}
+use Rattle.stretch.specs.Below.{below}
+use Rattle.refusal.specs.Limits.{referenceLimit}
+use Rattle.letters.specs.Letters.{residue, base64url, every}
+use Rattle.image.specs.Fields.{headerSize, countLimit, poolLimit, journalPlace, poolPlace, edition, recordCapacity, issued, recordsAt, journalCapacity, journalCount, journalAt, poolCapacity, poolUsed, poolAt, referenceLength, sequenceDigest, startOf, endOf, offsetOf, lengthOf, statusOf, replacementOf, entryOf}
+
+-- all of the tests pass
+abbrev pub all : List Bool → Bool
+all [] = true
+all (t ∷ ts) = cond t (all ts) false
+
+-- the header as the table gives it
+unfoldable pub laidOut : List ℕ → Bool
+laidOut b =
+    all (
+    eqb (edition b) 1
+    ∷ eqb (recordsAt b) headerSize
+    ∷ eqb (journalAt b) (journalPlace (recordCapacity b))
+    ∷ eqb (poolAt b) (poolPlace (recordCapacity b) (journalCapacity b))
+    ∷ []
+    )
+
+-- the counts within the capacities
+unfoldable pub countsWithin : List ℕ → Bool
+countsWithin b =
+    all (leb (issued b) (recordCapacity b) ∷ leb (journalCount b) (journalCapacity b) ∷ leb (poolUsed b) (poolCapacity b) ∷ [])
+
+-- the capacities and the reference's length within limits
+unfoldable pub withinLimits : List ℕ → Bool
+withinLimits b =
+    all (
+    leb (recordCapacity b) countLimit
+    ∷ leb (journalCapacity b) countLimit
+    ∷ leb (poolCapacity b) poolLimit
+    ∷ leb (referenceLength b) referenceLimit
+    ∷ []
+    )
+
+-- the lengths of the first k records together
+unfoldable pub lengths : List ℕ → ℕ → ℕ
+lengths b zero = 0
+lengths b (suc k) = lengths b k + lengthOf b (suc k)
+
+-- the record behind the first k
+unfoldable pub recordGood : List ℕ → ℕ → Bool
+recordGood b k =
+    all (
+    leb (startOf b (suc k)) (endOf b (suc k))
+    ∷ leb (endOf b (suc k)) (referenceLength b)
+    ∷ leb (statusOf b (suc k)) 1
+    ∷ eqb (offsetOf b (suc k)) (lengths b k)
+    ∷ every residue (replacementOf b (suc k))
+    ∷ []
+    )
+
+-- journal entry j
+unfoldable pub entryGood : List ℕ → ℕ → Bool
+entryGood b j = all (leb 1 (entryOf b j) ∷ leb (entryOf b j) (issued b) ∷ [])
+
+unfoldable pub wellFormed : List ℕ → Bool
+wellFormed b =
+    all (
+    leb headerSize (length b)
+    ∷ laidOut b
+    ∷ countsWithin b
+    ∷ withinLimits b
+    ∷ every base64url (sequenceDigest b)
+    ∷ leb (poolAt b + poolCapacity b) (length b)
+    ∷ below (recordGood b) (issued b)
+    ∷ eqb (lengths b (issued b)) (poolUsed b)
+    ∷ below (entryGood b) (journalCount b)
+    ∷ []
+    )

@@ -1,0 +1,19 @@
+-- What the header of a well-formed image says, as the code that stands behind the test needs it.
+use Prim.Native.Nat.{ℕ, _+_, _≤_}
+use mathlib.Core.Path.{_≡_}
+use mathlib.Core.List.{List}
+use lib.ListN.{length}
+use Rattle.refusal.specs.Limits.{referenceLimit}
+use Rattle.image.specs.Fields.{countLimit, poolLimit, journalPlace, poolPlace, recordCapacity, issued, journalCapacity, journalCount, journalAt, poolCapacity, poolUsed, poolAt, referenceLength}
+
+pub record Header (b : List ℕ) : Type 0 where
+  pub journal : journalAt b ≡ journalPlace (recordCapacity b)
+  pub pool : poolAt b ≡ poolPlace (recordCapacity b) (journalCapacity b)
+  pub records : issued b ≤ recordCapacity b
+  pub journalled : journalCount b ≤ journalCapacity b
+  pub used : poolUsed b ≤ poolCapacity b
+  pub records-limit : recordCapacity b ≤ countLimit
+  pub journal-limit : journalCapacity b ≤ countLimit
+  pub pool-limit : poolCapacity b ≤ poolLimit
+  pub reference-limit : referenceLength b ≤ referenceLimit
+  pub whole : poolAt b + poolCapacity b ≤ length b

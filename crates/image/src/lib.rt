@@ -1,0 +1,65 @@
+// The bytes of a register image (document 01, "The register image"): where each field stands, its
+// numbers, and the test of well-formedness.
+mod formed;
+mod header;
+mod number;
+mod records;
+
+pub use formed::well_formed;
+pub use number::put_number;
+pub use number::read_number;
+pub use records::record_at;
+pub use records::status_of;
+
+pub const HEADER_SIZE: usize = 76;
+
+pub const RECORD_SIZE: usize = 20;
+
+pub const ENTRY_SIZE: usize = 4;
+
+// The most records, and the most journal entries.
+pub const COUNT_LIMIT: usize = 10_000;
+
+// The most letters of the pool.
+pub const POOL_LIMIT: usize = 10_000_000;
+
+// The only edition there is.
+pub const FIRST_EDITION: usize = 1;
+
+// The places of the header's fields.
+pub const EDITION: usize = 0;
+
+pub const RECORD_CAPACITY: usize = 4;
+
+pub const ISSUED: usize = 8;
+
+pub const RECORDS_AT: usize = 12;
+
+pub const JOURNAL_CAPACITY: usize = 16;
+
+pub const JOURNAL_COUNT: usize = 20;
+
+pub const JOURNAL_AT: usize = 24;
+
+pub const POOL_CAPACITY: usize = 28;
+
+pub const POOL_USED: usize = 32;
+
+pub const POOL_AT: usize = 36;
+
+pub const REFERENCE_LENGTH: usize = 40;
+
+pub const DIGEST: usize = 44;
+
+// The places of a record's fields within it; its start is the first.
+pub const END: usize = 4;
+
+pub const OFFSET: usize = 8;
+
+pub const LENGTH: usize = 12;
+
+pub const STATUS: usize = 16;
+
+pub const INACTIVE: usize = 0;
+
+pub const ACTIVE: usize = 1;

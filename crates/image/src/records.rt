@@ -1,0 +1,98 @@
+// The records of an image, where its header is as it should be.
+use super::ACTIVE;
+use super::END;
+use super::HEADER_SIZE;
+use super::ISSUED;
+use super::LENGTH;
+use super::OFFSET;
+use super::POOL_AT;
+use super::POOL_USED;
+use super::RECORD_SIZE;
+use super::REFERENCE_LENGTH;
+use super::STATUS;
+use super::number::read_number;
+use letters::first_foreign;
+ghost use mathlib.Core.Path.{_≡_};
+ghost use mathlib.Core.Bool.{false, cond};
+ghost use mathlib.Core.List.{[], _∷_};
+ghost use Prim.Native.Nat.{_+_, _*_, _≤_};
+ghost use lib.Dec.{leb, eqb};
+ghost use lib.ListN.{length};
+ghost use Rattle.stretch.specs.Below.{below};
+ghost use Rattle.stretch.specs.Part.{part};
+ghost use Rattle.letters.specs.Letters.{residue, every};
+ghost use Rattle.image.specs.Numbers.{number};
+ghost use Rattle.image.specs.Fields.{headerSize, recordSize, countLimit, issued, poolUsed, poolAt, recordAt, statusOf};
+ghost use Rattle.image.specs.Formed.{all, lengths, recordGood};
+ghost use Rattle.image.specs.Header.{Header};
+
+// The place of a record, by its number.
+pub fn record_at(number: usize) -> usize
+    requires { ⌜ (1 ≤ number) × (number ≤ countLimit) ⌝ }
+    ensures { λ r. ⌜ (r ≡ recordAt number) × (r + recordSize ≡ headerSize + recordSize * number) ⌝ }
+{
+    HEADER_SIZE + RECORD_SIZE * (number - 1)
+}
+
+pub fn status_of(image: &[u8], number: usize) -> usize
+    requires { ⌜ Header (now image) ⌝ }
+    requires { ⌜ (1 ≤ number) × (number ≤ issued (now image)) ⌝ }
+    ensures { λ r. ⌜ r ≡ statusOf (now (image .entry)) number ⌝ }
+{
+    read_number(image, record_at(number) + STATUS)
+}
+
+// The tests of the record at a place but for its letters, where `before` letters stand before them.
+fn record_placed(image: &[u8], at: usize, reference: usize, before: usize) -> bool
+    requires { ⌜ at + recordSize ≤ length (now image) ⌝ }
+    ensures { λ r. ⌜ r ≡ all (
+        leb (number (now (image .entry)) at) (number (now (image .entry)) (at + 4))
+        ∷ leb (number (now (image .entry)) (at + 4)) reference
+        ∷ leb (number (now (image .entry)) (at + 16)) 1
+        ∷ eqb (number (now (image .entry)) (at + 8)) before
+        ∷ []) ⌝ }
+{
+    let end = read_number(image, at + END);
+    (read_number(image, at) <= end)
+        & (end <= reference)
+        & (read_number(image, at + STATUS) <= ACTIVE)
+        & (read_number(image, at + OFFSET) == before)
+}
+
+// Whether that many letters are all that the pool uses, and each is a residue.
+fn pool_formed(image: &[u8], letters: usize) -> bool
+    requires { ⌜ Header (now image) ⌝ }
+    ensures { λ r. ⌜ r ≡ cond (eqb letters (poolUsed (now (image .entry))))
+        (every residue (part (now (image .entry)) (poolAt (now (image .entry))) (poolAt (now (image .entry)) + letters)))
+        false ⌝ }
+{
+    let used = read_number(image, POOL_USED);
+    if letters != used {
+        return false;
+    }
+    let pool = read_number(image, POOL_AT);
+    first_foreign(&image[pool..pool + letters]) == letters
+}
+
+// Whether every record is good, and their letters fill the part of the pool that is used. The letters
+// are tested in one pass, since the records' parts of the pool lie one behind the other.
+pub fn records_formed(image: &[u8]) -> bool
+    requires { ⌜ Header (now image) ⌝ }
+    ensures { λ r. ⌜ r ≡ cond (below (recordGood (now (image .entry))) (issued (now (image .entry))))
+        (eqb (lengths (now (image .entry)) (issued (now (image .entry)))) (poolUsed (now (image .entry))))
+        false ⌝ }
+{
+    let issued = read_number(image, ISSUED);
+    let reference = read_number(image, REFERENCE_LENGTH);
+    let mut letters = 0;
+    let mut passed = 0;
+    while passed < issued {
+        let at = record_at(passed + 1);
+        if !record_placed(image, at, reference, letters) {
+            return false;
+        }
+        letters += read_number(image, at + LENGTH);
+        passed += 1;
+    }
+    pool_formed(image, letters)
+}

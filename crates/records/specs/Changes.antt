@@ -1,0 +1,52 @@
+-- Document 01, "The register image": what each change leaves of the image.
+use Prim.Native.Nat.{ℕ, _+_, _-_}
+use mathlib.Core.List.{List}
+use lib.ListN.{length}
+use Rattle.stretch.specs.Over.{over}
+use Rattle.normal.specs.Form.{Normal}
+use Rattle.image.specs.Numbers.{put}
+use Rattle.image.specs.Fields.{issued, issuedPlace, journalCount, journalCountPlace, poolAt, poolUsed, poolUsedPlace, recordAt, recordOf, statusAt, statusOf, active, inactive, entryAt, entryOf, headerOf}
+
+-- blank: the header, and nothing else
+unfoldable pub blanked : List ℕ → ℕ → List ℕ → ℕ → ℕ → ℕ → List ℕ
+blanked b n digest records journal pool = over b 0 (headerOf n digest records journal pool)
+
+-- an image made of b by a change to a number, with the number in b's next journal entry
+unfoldable pub journalled : List ℕ → List ℕ → ℕ → List ℕ
+journalled b changed i = put (put changed (entryAt b (journalCount b)) i) journalCountPlace (journalCount b + 1)
+
+-- a number made active or inactive
+unfoldable pub marked : List ℕ → ℕ → ℕ → List ℕ
+marked b i status = put b (statusAt i) status
+
+unfoldable pub withdrawn : List ℕ → ℕ → List ℕ
+withdrawn b i = journalled b (marked b i inactive) i
+
+unfoldable pub reentered : List ℕ → ℕ → List ℕ
+reentered b i = journalled b (marked b i active) i
+
+-- a form in the next record, its replacement behind those in the pool, and both counted
+unfoldable pub recorded : List ℕ → Normal → List ℕ
+recorded b f =
+    over b (recordAt (issued b + 1)) (recordOf (f .start) (f .end) (poolUsed b) (length (f .replacement)) active)
+
+unfoldable pub pooled : List ℕ → List ℕ → List ℕ → List ℕ
+pooled b changed x = over changed (poolAt b + poolUsed b) x
+
+unfoldable pub counted : List ℕ → List ℕ → ℕ → List ℕ
+counted b changed letters = put (put changed issuedPlace (issued b + 1)) poolUsedPlace (poolUsed b + letters)
+
+unfoldable pub numbered : List ℕ → Normal → List ℕ
+numbered b f =
+    journalled b (counted b (pooled b (recorded b f) (f .replacement)) (length (f .replacement))) (issued b + 1)
+
+-- the last journalled number
+unfoldable pub latest : List ℕ → ℕ
+latest b = entryOf b (journalCount b - 1)
+
+-- its status flipped, and its entry no longer counted
+unfoldable pub undone : List ℕ → List ℕ
+undone b = put (marked b (latest b) (1 - statusOf b (latest b))) journalCountPlace (journalCount b - 1)
+
+unfoldable pub sealed : List ℕ → List ℕ
+sealed b = put b journalCountPlace 0

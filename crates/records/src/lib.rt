@@ -1,0 +1,11 @@
+// The records of a well-formed image: how a normal form is found among them, and what changes write.
+//
+// specs/Lookup.antt has how a form is found, and specs/Changes.antt what each change leaves of the image.
+mod find;
+mod write;
+
+pub use find::lowest_holding;
+pub use write::change;
+pub use write::mark;
+pub use write::number_form;
+pub use write::put_four;

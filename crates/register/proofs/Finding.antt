@@ -1,0 +1,25 @@
+-- What the two searches among the records come to.
+use Prim.Native.Nat.{ℕ, _+_, _≤_}
+use native.Mathlib.Omega.{arith}
+use mathlib.Core.Path.{_≡_}
+use mathlib.Core.List.{List}
+use borrow.Author.Tests.{ne-eqb}
+use Rattle.normal.specs.Form.{Normal}
+use Rattle.image.specs.Fields.{issued, active, inactive}
+use Rattle.register.specs.declared.Entered.the-variants.{New, Again, Known}
+use Rattle.records.specs.Lookup.{lowestHolding}
+use Rattle.register.specs.Found.{found}
+
+module _ (b : List ℕ) (f : Normal) where
+  pub found-known : (k : ℕ) → k ≡ lowestHolding b active f → 1 ≤ k → found b f ≡ Known k
+  unfolding found
+  found-known k e l = rw (← e, ne-eqb k 0 (λ z. omega arith))
+
+  module _ (none : lowestHolding b active f ≡ 0) where
+    pub found-again : (k : ℕ) → k ≡ lowestHolding b inactive f → 1 ≤ k → found b f ≡ Again k
+    unfolding found
+    found-again k e l = rw (none, ← e, ne-eqb k 0 (λ z. omega arith))
+
+    pub found-new : lowestHolding b inactive f ≡ 0 → found b f ≡ New (issued b + 1)
+    unfolding found
+    found-new e = rw (none, e)

@@ -1,0 +1,7 @@
+pub mod Answers
+pub mod BlankTests
+pub mod EntryTests
+pub mod Finding
+pub mod Latest
+pub mod Promises
+pub mod Stretched

@@ -1,0 +1,45 @@
+-- The tests, and the header behind them.
+use mathlib.Core.Path.{refl, _∙_, sym}
+use borrow.Author.Needs.{needs}
+use Rattle.refusal.proofs.Verdict.{outcome-accepted, outcome-refused}
+use Rattle.register.proofs.Answers.{does-refused, does-accepted}
+use Rattle.register.proofs.BlankTests.{blank-digest-long, blank-records, blank-journal, blank-room}
+use Rattle.register.proofs.header.blank.Statement.{statement}
+use Rattle.register.proofs.header.blank.Tie as tie
+
+check-blank-requires : tie.Need-check-blank-requires
+check-blank-requires c κs = search needs
+
+enum-told : tie.Need-enum-told
+enum-told c = search needs
+
+write-header-requires : tie.Need-write-header-requires
+write-header-requires c κs =
+    let e = sym (c .before .enum-told .given .1) ∙ c .before .before .before .check-blank .ensures in
+    ((blank-room _ _ _ _ _ _ e, blank-digest-long _ _ _ _ _ _ e), (blank-records _ _ _ _ _ _ e, blank-journal _ _ _ _ _ _ e))
+
+enum-known-why : tie.Need-enum-known-why
+enum-known-why c = search needs
+
+same-length : tie.Need-same-length
+same-length c = search needs
+
+returns : tie.Need-returns
+returns c =
+    does-accepted _ _ _ _ _ _ _ (outcome-accepted _ (sym (c .before .before .before .before .enum-told .given .1)
+    ∙ c .before .before .before .before .before .before .check-blank .ensures)) refl (c .before .before .write-header .ensures)
+
+returns-2 : tie.Need-returns-2
+returns-2 c = does-refused _ _ _ _ _ _ (outcome-refused _ _ (sym (c .before .why .given .1) ∙ c .before .before .before .check-blank .ensures))
+
+pub blank-spec : {M : Type 1} → statement M
+blank-spec =
+    tie.close
+    (tie.spec
+    check-blank-requires
+    enum-told
+    write-header-requires
+    enum-known-why
+    same-length
+    returns
+    returns-2)

@@ -1,0 +1,50 @@
+-- The test, and the count behind it.
+use native.Mathlib.Omega.{arith}
+use mathlib.Core.Path.{refl, _∙_, sym}
+use borrow.Author.Tests.{not-true, not-false}
+use borrow.Author.Needs.{needs}
+use Rattle.image.proofs.WellFormed.{formed}
+use Rattle.records.specs.Changes.{sealed}
+use Rattle.register.specs.Calls.{Seals}
+use Rattle.register.proofs.Answers.{does-refused, does-accepted}
+use Rattle.register.proofs.undoing.seal.Statement.{statement}
+use Rattle.register.proofs.undoing.seal.Tie as tie
+
+well-formed-requires : tie.Need-well-formed-requires
+well-formed-requires c κs = search needs
+
+refuse-requires : tie.Need-refuse-requires
+refuse-requires c κs = search needs
+
+same-length : tie.Need-same-length
+same-length c = search needs
+
+returns : tie.Need-returns
+unfolding Seals
+returns c = does-refused _ _ _ _ _ _ (rw (c .refuse .ensures, sym (c .before .before .well-formed .ensures) ∙ not-true _ (c .before .if1 .taken)))
+
+put-number-requires : tie.Need-put-number-requires
+put-number-requires c κs =
+    let h = formed _ (sym (c .before .before .well-formed .ensures) ∙ not-false _ (c .before .if1 .left)) .header in
+    omega (arith, h .pool, h .whole)
+
+same-length-2 : tie.Need-same-length-2
+same-length-2 c = search needs
+
+returns-2 : tie.Need-returns-2
+unfolding Seals sealed
+returns-2 c =
+    does-accepted _ _ _ _ _ _ _ (rw (sym (c .before .before .before .before .before .well-formed .ensures) ∙ not-false _
+    (c .before .before .before .before .if1 .left))) refl (c .before .before .put-number .ensures)
+
+pub seal-spec : {M : Type 1} → statement M
+seal-spec =
+    tie.close
+    (tie.spec
+    well-formed-requires
+    refuse-requires
+    same-length
+    returns
+    put-number-requires
+    same-length-2
+    returns-2)

@@ -1,0 +1,120 @@
+// A blank image: its header, with no number issued.
+use image::COUNT_LIMIT;
+use image::DIGEST;
+use image::ENTRY_SIZE;
+use image::FIRST_EDITION;
+use image::HEADER_SIZE;
+use image::JOURNAL_CAPACITY;
+use image::POOL_AT;
+use image::POOL_LIMIT;
+use image::POOL_USED;
+use image::RECORD_SIZE;
+use image::REFERENCE_LENGTH;
+use image::put_number;
+use letters::check_digest_text;
+use records::put_four;
+use refusal::NO_ROOM_FOR_IMAGE;
+use refusal::OVER_LIMIT;
+use refusal::Outcome;
+use refusal::REFERENCE_LIMIT;
+use refusal::refuse;
+use stretch::copy_at;
+ghost use mathlib.Core.Path.{_≡_};
+ghost use Prim.Native.Nat.{_≤_};
+ghost use lib.ListN.{length};
+ghost use Rattle.image.specs.Fields.{headerSize, countLimit};
+ghost use Rattle.records.specs.Changes.{blanked};
+ghost use Rattle.register.specs.Calls.{Blanks};
+ghost use Rattle.register.specs.Inner.{capacityAnswer, blankAnswer};
+
+// 9: the capacities, then the buffer, of that much room.
+fn check_capacities(room: u64, records: u64, journal: u64, pool: u64) -> Outcome
+    ensures { λ r. ⌜ r ≡ capacityAnswer room records journal pool ⌝ }
+{
+    if (COUNT_LIMIT as u64) < records {
+        return Outcome::Refused(refuse(NO_ROOM_FOR_IMAGE, 0));
+    }
+    if (COUNT_LIMIT as u64) < journal {
+        return Outcome::Refused(refuse(NO_ROOM_FOR_IMAGE, 0));
+    }
+    if (POOL_LIMIT as u64) < pool {
+        return Outcome::Refused(refuse(NO_ROOM_FOR_IMAGE, 0));
+    }
+    let size = HEADER_SIZE as u64
+        + RECORD_SIZE as u64 * records
+        + ENTRY_SIZE as u64 * journal
+        + pool;
+    if room < size {
+        return Outcome::Refused(refuse(NO_ROOM_FOR_IMAGE, size));
+    }
+    Outcome::Accepted
+}
+
+// 1, 7, 9.
+fn check_blank(
+    room: u64,
+    residues: u64,
+    digest: &[u8],
+    records: u64,
+    journal: u64,
+    pool: u64,
+) -> Outcome
+    ensures { λ r. ⌜ r ≡ blankAnswer room residues (now (digest .entry)) records journal pool ⌝ }
+{
+    if REFERENCE_LIMIT < residues {
+        return Outcome::Refused(refuse(OVER_LIMIT, 0));
+    }
+    match check_digest_text(digest) {
+        Outcome::Accepted => check_capacities(room, records, journal, pool),
+        Outcome::Refused(why) => Outcome::Refused(why),
+    }
+}
+
+fn write_header(
+    image: &mut [u8],
+    residues: usize,
+    digest: &[u8],
+    records: usize,
+    journal: usize,
+    pool: usize,
+)
+    requires { ⌜ (headerSize ≤ length (now image)) × (length (now digest) ≡ 32) ⌝ }
+    requires { ⌜ (records ≤ countLimit) × (journal ≤ countLimit) ⌝ }
+    ensures { λ _. ⌜ now (image .exit) ≡ blanked (now (image .entry)) residues (now (digest .entry)) records journal pool ⌝ }
+{
+    let journal_at = HEADER_SIZE + RECORD_SIZE * records;
+    let pool_at = journal_at + ENTRY_SIZE * journal;
+    put_four(image, 0, FIRST_EDITION, records, 0, HEADER_SIZE);
+    put_four(image, JOURNAL_CAPACITY, journal, 0, journal_at, pool);
+    put_number(image, POOL_USED, 0);
+    put_number(image, POOL_AT, pool_at);
+    put_number(image, REFERENCE_LENGTH, residues);
+    copy_at(image, DIGEST, digest);
+}
+
+// Makes the image a blank one of these capacities, on a reference of so many residues.
+pub fn blank(
+    image: &mut [u8],
+    residues: u64,
+    digest: &[u8],
+    records: u64,
+    journal: u64,
+    pool: u64,
+) -> Outcome
+    ensures { λ r. ⌜ Blanks (now (image .entry)) residues (now (digest .entry)) records journal pool r (now (image .exit)) ⌝ }
+{
+    match check_blank(image.len() as u64, residues, digest, records, journal, pool) {
+        Outcome::Accepted => {
+            write_header(
+                image,
+                residues as usize,
+                digest,
+                records as usize,
+                journal as usize,
+                pool as usize,
+            );
+            Outcome::Accepted
+        }
+        Outcome::Refused(why) => Outcome::Refused(why),
+    }
+}

@@ -1,0 +1,120 @@
+// Prints document 01's register example: each call and its answer on a line, then the buffer. They have
+// to be those of the file stdout, which a second program makes, tests/second/register_vectors.py.
+use print::hex;
+use print::labelled;
+use print::refused;
+use print::text;
+use refusal::Outcome;
+use register::Entered;
+use register::Undone;
+
+// The image takes 143 bytes of the buffer; what stands behind it is to stay.
+const SIZE: usize = 160;
+
+const ROW: usize = 16;
+
+const REFERENCE: [u8; 11] = *b"TCAGCAGCAGT";
+
+const DIGEST: [u8; 32] = *b"zR7HujP8jYfpROv-hBLZMHuR_5P4Zo0q";
+
+fn row(bytes: &[u8]) {
+    hex(bytes);
+    text(b"\n");
+}
+
+// The bytes that a call has left.
+fn left(image: &[u8]) {
+    for i in 0..image.len() / ROW {
+        row(&image[ROW * i..ROW * i + ROW]);
+    }
+}
+
+// What a call answers, to the end of the line.
+fn done(answer: Outcome) {
+    match answer {
+        Outcome::Accepted => text(b" done"),
+        Outcome::Refused(r) => refused(r),
+    }
+    text(b"\n");
+}
+
+fn entered(answer: Entered) {
+    match answer {
+        Entered::New(number) => labelled(b" new ", number),
+        Entered::Again(number) => labelled(b" again ", number),
+        Entered::Known(number) => labelled(b" known ", number),
+        Entered::Refused(r) => refused(r),
+    }
+    text(b"\n");
+}
+
+fn undone(answer: Undone) {
+    match answer {
+        Undone::Number(number) => labelled(b" ", number),
+        Undone::Refused(r) => refused(r),
+    }
+    text(b"\n");
+}
+
+fn blank(image: &mut [u8], records: u64, journal: u64, pool: u64) {
+    let residues = REFERENCE.len() as u64;
+    labelled(b"blank ", residues);
+    text(b" ");
+    text(&DIGEST);
+    labelled(b" ", records);
+    labelled(b" ", journal);
+    labelled(b" ", pool);
+    done(register::blank(image, residues, &DIGEST, records, journal, pool));
+    left(image);
+}
+
+fn entry(image: &mut [u8], start: u64, end: u64, replacement: &[u8]) {
+    labelled(b"entry ", start);
+    labelled(b" ", end);
+    text(b" ");
+    text(replacement);
+    entered(register::entry(image, &DIGEST, &REFERENCE, start, end, replacement));
+    left(image);
+}
+
+fn withdraw(image: &mut [u8], number: u64) {
+    labelled(b"withdraw ", number);
+    done(register::withdraw(image, number));
+    left(image);
+}
+
+fn undo(image: &mut [u8]) {
+    text(b"undo");
+    undone(register::undo(image));
+    left(image);
+}
+
+fn seal(image: &mut [u8]) {
+    text(b"seal");
+    done(register::seal(image));
+    left(image);
+}
+
+// Cases 1, 4, 2, 6 and 5, for which no record is left at case 6; the first is undone.
+fn entries(image: &mut [u8]) {
+    entry(image, 4, 4, b"CAG");
+    undo(image);
+    entry(image, 2, 3, b"T");
+    entry(image, 1, 2, b"CAGC");
+    entry(image, 3, 5, b"TTT");
+    entry(image, 1, 5, b"CTGC");
+}
+
+// Behind a seal nothing is left to undo.
+fn sealed(image: &mut [u8]) {
+    withdraw(image, 1);
+    seal(image);
+    undo(image);
+}
+
+fn main() {
+    let mut image = [0xAAu8; SIZE];
+    blank(&mut image, 2, 3, 15);
+    entries(&mut image);
+    sealed(&mut image);
+}
