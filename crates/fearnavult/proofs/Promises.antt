@@ -11,11 +11,16 @@ use Rattle.reading.specs.Accepted.{ReadsLocation, ReadsAllele}
 use Rattle.reading.proofs.Promises.{reads-location-once, reads-allele-once}
 use Rattle.digest.specs.Calls.{Identifies}
 use Rattle.identify.specs.Calls.{Says, SaysLocation, IdentifiesLocation, SaysAllele, IdentifiesAllele}
+use Rattle.register.specs.Calls.{Blanks, Enters, Withdraws, Undoes, Seals}
+use Rattle.register.proofs.Promises.{blanks-once, enters-once, withdraws-once, undoes-once, seals-once}
 use Rattle.flat.specs.declared.FvAllele.{FvAllele}
+use Rattle.flat.specs.declared.FvEntered.{FvEntered}
 use Rattle.flat.specs.declared.FvForm.{FvForm}
 use Rattle.flat.specs.declared.FvLocation.{FvLocation}
+use Rattle.flat.specs.declared.FvOutcome.{FvOutcome}
+use Rattle.flat.specs.declared.FvUndone.{FvUndone}
 use Rattle.flat.specs.declared.FvWritten.{FvWritten}
-use Rattle.flat.specs.Flat.{flatWritten, flatForm, flatLocation, flatAllele, Flattened}
+use Rattle.flat.specs.Flat.{flatWritten, flatForm, flatLocation, flatAllele, flatOutcome, flatEntered, flatUndone, Flattened}
 
 -- one answer below is one answer above
 flat-once : {A B : Type 0} (flatten : A → B) (P Q : A → Type 0) (a₁ a₂ : B) (p : Flattened flatten P a₁) (q : Flattened flatten Q a₂) → p .below ≡ q .below → a₁ ≡ a₂
@@ -66,3 +71,31 @@ module _ (text : List ℕ) where
 
   pub flat-reads-allele-once : (a₁ a₂ : FvAllele) → Flattened flatAllele (ReadsAllele text) a₁ → Flattened flatAllele (ReadsAllele text) a₂ → a₁ ≡ a₂
   flat-reads-allele-once a₁ a₂ p q = flat-once _ _ _ _ _ p q (reads-allele-once text _ _ (p .promised) (q .promised))
+
+-- a call that has one answer and leaves one content
+flat-left-once : {A B : Type 0} (flatten : A → B) (P : List ℕ → A → Type 0) (a₁ a₂ : B) (l₁ l₂ : List ℕ)
+    → ((x y : A) → P l₁ x → P l₂ y → (x ≡ y) × (l₁ ≡ l₂)) → Flattened flatten (P l₁) a₁ → Flattened flatten (P l₂) a₂ → (a₁ ≡ a₂) × (l₁ ≡ l₂)
+flat-left-once flatten P a₁ a₂ l₁ l₂ once p q =
+    let same = once (p .below) (q .below) (p .promised) (q .promised) in
+    (flat-once flatten (P l₁) (P l₂) a₁ a₂ p q (same .0), same .1)
+
+module _ (b l₁ l₂ : List ℕ) where
+  module _ (a₁ a₂ : FvOutcome) where
+    pub flat-blanks-once : (n : ℕ) (digest : List ℕ) (records journal pool : ℕ)
+        → Flattened flatOutcome (λ a. Blanks b n digest records journal pool a l₁) a₁ → Flattened flatOutcome (λ a. Blanks b n digest records journal pool a l₂) a₂ → (a₁ ≡ a₂) × (l₁ ≡ l₂)
+    flat-blanks-once n digest records journal pool =
+        flat-left-once flatOutcome (λ l a. Blanks b n digest records journal pool a l) a₁ a₂ l₁ l₂ (λ x y. blanks-once b l₁ l₂ x y n digest records journal pool)
+
+    pub flat-withdraws-once : (i : ℕ) → Flattened flatOutcome (λ a. Withdraws b i a l₁) a₁ → Flattened flatOutcome (λ a. Withdraws b i a l₂) a₂ → (a₁ ≡ a₂) × (l₁ ≡ l₂)
+    flat-withdraws-once i = flat-left-once flatOutcome (λ l a. Withdraws b i a l) a₁ a₂ l₁ l₂ (λ x y. withdraws-once b l₁ l₂ x y i)
+
+    pub flat-seals-once : Flattened flatOutcome (λ a. Seals b a l₁) a₁ → Flattened flatOutcome (λ a. Seals b a l₂) a₂ → (a₁ ≡ a₂) × (l₁ ≡ l₂)
+    flat-seals-once = flat-left-once flatOutcome (λ l a. Seals b a l) a₁ a₂ l₁ l₂ (λ x y. seals-once b l₁ l₂ x y)
+
+  pub flat-enters-once : (a₁ a₂ : FvEntered) (digest r : List ℕ) (start end : ℕ) (x : List ℕ)
+      → Flattened flatEntered (λ a. Enters b digest r start end x a l₁) a₁ → Flattened flatEntered (λ a. Enters b digest r start end x a l₂) a₂ → (a₁ ≡ a₂) × (l₁ ≡ l₂)
+  flat-enters-once a₁ a₂ digest r start end x =
+      flat-left-once flatEntered (λ l a. Enters b digest r start end x a l) a₁ a₂ l₁ l₂ (λ u w. enters-once b l₁ l₂ u w digest r start end x)
+
+  pub flat-undoes-once : (a₁ a₂ : FvUndone) → Flattened flatUndone (λ a. Undoes b a l₁) a₁ → Flattened flatUndone (λ a. Undoes b a l₂) a₂ → (a₁ ≡ a₂) × (l₁ ≡ l₂)
+  flat-undoes-once a₁ a₂ = flat-left-once flatUndone (λ l a. Undoes b a l) a₁ a₂ l₁ l₂ (λ x y. undoes-once b l₁ l₂ x y)
