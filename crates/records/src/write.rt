@@ -43,7 +43,7 @@ pub fn mark(image: &mut [u8], number: usize, status: usize)
 }
 
 // Puts a number in the journal that begins at `at`, behind so many entries, and counts it.
-pub fn journal(image: &mut [u8], at: usize, count: usize, number: usize)
+fn journal(image: &mut [u8], at: usize, count: usize, number: usize)
     requires { ⌜ (headerSize ≤ at) × (count < countLimit) × (at + entrySize * count + 4 ≤ length (now image)) ⌝ }
     ensures { λ _. ⌜ now (image .exit) ≡ put (put (now (image .entry)) (at + entrySize * count) number) journalCountPlace (count + 1) ⌝ }
 {
@@ -65,7 +65,7 @@ pub fn change(image: &mut [u8], number: usize, status: usize)
 }
 
 // Puts an active record of a form whose replacement stands in the pool from `offset` on.
-pub fn put_record(image: &mut [u8], at: usize, form: Form, offset: usize)
+fn put_record(image: &mut [u8], at: usize, form: Form, offset: usize)
     requires { ⌜ at + recordSize ≤ length (now image) ⌝ }
     ensures { λ _. ⌜ now (image .exit) ≡ over (now (image .entry)) at (recordOf (form .start) (form .end) offset (form .length) active) ⌝ }
 {
@@ -81,7 +81,7 @@ pub fn put_record(image: &mut [u8], at: usize, form: Form, offset: usize)
 }
 
 // Puts a replacement in the pool.
-pub fn put_replacement(image: &mut [u8], at: usize, a: &[u8], b: &[u8], c: &[u8])
+fn put_replacement(image: &mut [u8], at: usize, a: &[u8], b: &[u8], c: &[u8])
     requires { ⌜ at + (length (now a) + (length (now b) + length (now c))) ≤ length (now image) ⌝ }
     ensures { λ _. ⌜ now (image .exit) ≡ over (now (image .entry)) at (now (a .entry) ++ (now (b .entry) ++ now (c .entry))) ⌝ }
 {
@@ -89,7 +89,7 @@ pub fn put_replacement(image: &mut [u8], at: usize, a: &[u8], b: &[u8], c: &[u8]
 }
 
 // Puts how many numbers are issued and how much of the pool is used.
-pub fn put_counts(image: &mut [u8], issued: usize, used: usize)
+fn put_counts(image: &mut [u8], issued: usize, used: usize)
     requires { ⌜ headerSize ≤ length (now image) ⌝ }
     ensures { λ _. ⌜ now (image .exit) ≡ put (put (now (image .entry)) issuedPlace issued) poolUsedPlace used ⌝ }
 {
