@@ -22,8 +22,8 @@ use Rattle.text.specs.declared.Number.{Number}
 use Rattle.text.specs.declared.Number.the-variants.{Is, Absent}
 use Rattle.text.specs.Number.{numberOf}
 use Rattle.text.proofs.Digits.{decimal-within}
-use Rattle.lines.specs.Cut.{parted, onFirst}
-use Rattle.lines.specs.Said.{Said, unread, allele, space, replacementOf, numbered, saidBy, said}
+use Rattle.saying.specs.Cut.{parted, onFirst}
+use Rattle.saying.specs.Said.{Said, unread, allele, space, replacementOf, numbered, saidBy, said}
 use Rattle.lines.specs.Answers.{shown, formReply, verdictText, saidText, answerLine}
 use Rattle.lines.proofs.Laying.{word-short}
 

@@ -1,5 +1,3 @@
-pub mod Cutting
-pub mod Fields
 pub mod Laying
 pub mod Replies
 pub mod Walk

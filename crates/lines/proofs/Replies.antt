@@ -15,8 +15,8 @@ use Rattle.normal.specs.Form.{Normal}
 use Rattle.normal.specs.Stretches.{formIn}
 use Rattle.normal.specs.Calls.{locatedClean}
 use Rattle.normal.proofs.Answers.{clean-accepted, clean-refused, clean-form}
-use Rattle.lines.specs.Said.{unread, allele, said}
-use Rattle.lines.specs.Answers.{lineFeed, formReply, alleleReply, answerLine}
+use Rattle.saying.specs.Said.{lineFeed, unread, allele, said}
+use Rattle.lines.specs.Answers.{formReply, alleleReply, answerLine}
 use Rattle.lines.specs.Parts.{head, refusedLine, stop}
 
 -- a form's line in its parts

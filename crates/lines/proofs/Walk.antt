@@ -12,9 +12,10 @@ use Rattle.stretch.specs.Part.{part}
 use Rattle.stretch.proofs.Cases.{by-cases}
 use Rattle.stretch.proofs.Tail.{lent-tail}
 use Rattle.letters.proofs.Outside.{firstOutside-le}
-use Rattle.lines.specs.Cut.{parted, other, firstOf, nextOf}
-use Rattle.lines.specs.Answers.{lineFeed, answerLine, ended, answersTo, outputOf, output}
-use Rattle.lines.proofs.Cutting.{next-le, parted-cut, parted-one, parted-next, parted-last}
+use Rattle.saying.specs.Cut.{parted, other, firstOf, nextOf}
+use Rattle.saying.specs.Said.{lineFeed}
+use Rattle.saying.proofs.Cutting.{next-le, parted-cut, parted-one, parted-next, parted-last}
+use Rattle.lines.specs.Answers.{answerLine, ended, answersTo, outputOf, output}
 
 -- what is printed for the lines from a place on
 abbrev pub answersFrom : List ℕ → List ℕ → ℕ → List ℕ

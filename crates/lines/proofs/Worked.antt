@@ -8,8 +8,8 @@ use Rattle.normal.specs.Form.{altered, shorter, within, ahead, behind, kindIn, 
 use Rattle.normal.specs.Calls.{formGrounds}
 use Rattle.text.specs.Decimal.{decimalIn, enough, decimal}
 use Rattle.text.specs.Number.{valueFrom, value, numberOf}
-use Rattle.lines.specs.Cut.{parted}
-use Rattle.lines.specs.Said.{replacementOf, said}
+use Rattle.saying.specs.Cut.{parted}
+use Rattle.saying.specs.Said.{replacementOf, said}
 use Rattle.lines.specs.Answers.{answerLine, output}
 
 pub worked : output (ascii "TCAGCAGCAGT\n4 4 CAG\n2 2 .\n9 4 A\n") ≡ ascii "1 10 indel CAGCAGCAGCAG\n2 2 unchanged .\nrefused 2\n"

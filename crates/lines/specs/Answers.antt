@@ -11,11 +11,8 @@ use Rattle.normal.specs.declared.Kind.the-variants.{Unchanged, Substitution, In
 use Rattle.normal.specs.Form.{Normal, normal}
 use Rattle.normal.specs.Calls.{formGrounds}
 use Rattle.text.specs.Decimal.{decimal}
-use Rattle.lines.specs.Cut.{parted}
-use Rattle.lines.specs.Said.{Said, unread, allele, said, space}
-
-abbrev pub lineFeed : ℕ
-lineFeed = 0x0A
+use Rattle.saying.specs.Cut.{parted}
+use Rattle.saying.specs.Said.{Said, unread, allele, said, space, lineFeed}
 
 abbrev pub word : Kind → List ℕ
 word Unchanged = ascii "unchanged"

@@ -1,4 +1,2 @@
-pub mod Cut
-pub mod Said
 pub mod Answers
 pub mod Parts

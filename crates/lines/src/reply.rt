@@ -1,6 +1,4 @@
 // The line that answers a line.
-use super::Line;
-use super::read::read_line;
 use super::write::put_all;
 use super::write::put_line;
 use super::write::write_head;
@@ -10,12 +8,15 @@ use normal::Stretches;
 use normal::joined_length;
 use normal::locate_clean;
 use refusal::Written;
+use saying::Line;
+use saying::read_line;
 ghost use mathlib.Core.List.{_++_, _∷_, []};
 ghost use Prim.Native.Nat.{_≤_};
 ghost use lib.ListN.{length};
 ghost use Rattle.stretch.specs.Over.{Wrote};
 ghost use Rattle.normal.specs.Stretches.{Fits, formIn};
-ghost use Rattle.lines.specs.Answers.{lineFeed, formReply, alleleReply, answerLine, Puts};
+ghost use Rattle.saying.specs.Said.{lineFeed};
+ghost use Rattle.lines.specs.Answers.{formReply, alleleReply, answerLine, Puts};
 ghost use Rattle.lines.specs.Parts.{head, refusedLine, stop};
 
 // The front of a form whose replacement has so many letters.

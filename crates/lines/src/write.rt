@@ -12,7 +12,8 @@ ghost use Prim.Native.Nat.{_+_, _≤_, _^_, _<_};
 ghost use lib.ListN.{length};
 ghost use Rattle.stretch.specs.Over.{Wrote};
 ghost use Rattle.text.specs.Decimal.{decimal};
-ghost use Rattle.lines.specs.Answers.{lineFeed, word, Puts};
+ghost use Rattle.saying.specs.Said.{lineFeed};
+ghost use Rattle.lines.specs.Answers.{word, Puts};
 ghost use Rattle.lines.specs.Parts.{head, refusedLine};
 
 // A number, and one byte behind it.

@@ -1,7 +1,7 @@
 -- The reference ends within the input.
 use native.Mathlib.Omega.{arith}
 use borrow.Author.Needs.{needs}
-use Rattle.lines.proofs.Cutting.{next-le}
+use Rattle.saying.proofs.Cutting.{next-le}
 use Rattle.lines_main.proofs.print_all.Statement.{statement}
 use Rattle.lines_main.proofs.print_all.Tie as tie
 

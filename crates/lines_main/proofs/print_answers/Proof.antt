@@ -4,7 +4,7 @@ use native.Mathlib.Omega.{arith}
 use mathlib.Core.Path.{_≡_, refl}
 use lib.ListN.{length}
 use borrow.Author.Needs.{needs}
-use Rattle.lines.proofs.Cutting.{next-le}
+use Rattle.saying.proofs.Cutting.{next-le}
 use Rattle.lines_main.proofs.print_answers.Statement.{statement}
 use Rattle.lines_main.proofs.print_answers.Tie as tie
 

@@ -1,7 +1,7 @@
 // Where a byte stands.
 ghost use mathlib.Core.Path.{_≡_};
-ghost use Rattle.lines.specs.Cut.{nextOf};
-ghost use Rattle.lines.specs.Answers.{lineFeed};
+ghost use Rattle.saying.specs.Cut.{nextOf};
+ghost use Rattle.saying.specs.Said.{lineFeed};
 
 // The first place at or after `from` where `s` has `byte`, or its length where there is none; `from`
 // itself where that is past the end.

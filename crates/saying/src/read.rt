@@ -6,8 +6,8 @@ use text::read_decimal;
 ghost use mathlib.Core.Path.{_≡_};
 ghost use Prim.Native.Nat.{_<_, _≤_};
 ghost use lib.ListN.{length, drop};
-ghost use Rattle.lines.specs.Said.{replacementOf, Tells};
-ghost use Rattle.lines.specs.Parts.{Fields};
+ghost use Rattle.saying.specs.Said.{replacementOf, Tells};
+ghost use Rattle.saying.specs.Parts.{Fields};
 
 // Where the replacement begins that the last field of the line, from `third` on, stands for.
 fn replacement_from(line: &[u8], third: usize) -> usize

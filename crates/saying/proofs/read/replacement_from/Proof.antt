@@ -3,9 +3,9 @@ use native.Mathlib.Omega.{arith}
 use mathlib.Core.Path.{_∙_, sym}
 use lib.ListN.{length, drop-of-length-le}
 use borrow.Author.Needs.{needs}
-use Rattle.lines.proofs.Fields.{stop-alone, no-stop, longer}
-use Rattle.lines.proofs.read.replacement_from.Statement.{statement}
-use Rattle.lines.proofs.read.replacement_from.Tie as tie
+use Rattle.saying.proofs.Fields.{stop-alone, no-stop, longer}
+use Rattle.saying.proofs.read.replacement_from.Statement.{statement}
+use Rattle.saying.proofs.read.replacement_from.Tie as tie
 
 shared-slice-read-if1 : tie.Need-shared-slice-read-if1
 shared-slice-read-if1 c = search needs

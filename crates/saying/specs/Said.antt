@@ -9,12 +9,16 @@ use Rattle.stretch.specs.Same.{same}
 use Rattle.text.specs.declared.Number.{Number}
 use Rattle.text.specs.declared.Number.the-variants.{Is, Absent}
 use Rattle.text.specs.Number.{numberOf}
-use Rattle.lines.specs.declared.Line.{Line}
-use Rattle.lines.specs.declared.Line.the-variants.{Allele, Unread}
-use Rattle.lines.specs.Cut.{parted}
+use Rattle.saying.specs.declared.Line.{Line}
+use Rattle.saying.specs.declared.Line.the-variants.{Allele, Unread}
+use Rattle.saying.specs.Cut.{parted}
 
+-- what parts the fields of a line, and what ends a line
 abbrev pub space : ℕ
 space = 0x20
+
+abbrev pub lineFeed : ℕ
+lineFeed = 0x0A
 
 pub data Said : Type 0 where
   unread : Said

@@ -2,9 +2,9 @@
 use native.Mathlib.Omega.{arith}
 use mathlib.Core.Path.{_∙_, sym}
 use borrow.Author.Needs.{needs}
-use Rattle.lines.proofs.Fields.{says-nothing, no-third, crowded, three-fields}
-use Rattle.lines.proofs.read.read_fields.Statement.{statement}
-use Rattle.lines.proofs.read.read_fields.Tie as tie
+use Rattle.saying.proofs.Fields.{says-nothing, no-third, crowded, three-fields}
+use Rattle.saying.proofs.read.read_fields.Statement.{statement}
+use Rattle.saying.proofs.read.read_fields.Tie as tie
 
 add-third : tie.Need-add-third
 add-third c = search needs

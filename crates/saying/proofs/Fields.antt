@@ -14,11 +14,11 @@ use Rattle.stretch.specs.Same.{same}
 use Rattle.stretch.proofs.Same.{same-lengths}
 use Rattle.letters.proofs.Outside.{firstOutside-le}
 use Rattle.text.specs.Number.{numberOf}
-use Rattle.lines.specs.declared.Line.the-variants.{Unread}
-use Rattle.lines.specs.Cut.{parted, other, firstOf, nextOf}
-use Rattle.lines.specs.Said.{unread, space, replacementOf, numbered, saidBy, said, Tells}
-use Rattle.lines.proofs.Cutting.{next-le, parted-cut, parted-one, parted-next, parted-last}
-use Rattle.lines.specs.Parts.{Fields}
+use Rattle.saying.specs.declared.Line.the-variants.{Unread}
+use Rattle.saying.specs.Cut.{parted, other, firstOf, nextOf}
+use Rattle.saying.specs.Said.{unread, space, replacementOf, numbered, saidBy, said, Tells}
+use Rattle.saying.proofs.Cutting.{next-le, parted-cut, parted-one, parted-next, parted-last}
+use Rattle.saying.specs.Parts.{Fields}
 
 module _ (line : List ℕ) where
   pub says-nothing : said line ≡ unread → Tells line Unread
