@@ -11,8 +11,10 @@ use Rattle.reading.specs.Accepted.{ReadsLocation, ReadsAllele}
 use Rattle.reading.proofs.Promises.{reads-location-once, reads-allele-once}
 use Rattle.digest.specs.Calls.{Identifies}
 use Rattle.identify.specs.Calls.{Says, SaysLocation, IdentifiesLocation, SaysAllele, IdentifiesAllele}
-use Rattle.register.specs.Calls.{Blanks, Enters, Withdraws, Undoes, Seals}
-use Rattle.register.proofs.Promises.{blanks-once, enters-once, withdraws-once, undoes-once, seals-once}
+use Rattle.entering.specs.Calls.{Enters}
+use Rattle.register.specs.Calls.{Blanks, Withdraws, Undoes, Seals}
+use Rattle.entering.proofs.Promises.{enters-once}
+use Rattle.register.proofs.Promises.{blanks-once, withdraws-once, undoes-once, seals-once}
 use Rattle.flat.specs.declared.FvAllele.{FvAllele}
 use Rattle.flat.specs.declared.FvEntered.{FvEntered}
 use Rattle.flat.specs.declared.FvForm.{FvForm}

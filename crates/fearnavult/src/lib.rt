@@ -20,7 +20,8 @@ ghost use Rattle.normal.specs.Calls.{Normalises};
 ghost use Rattle.reading.specs.Accepted.{ReadsLocation, ReadsAllele};
 ghost use Rattle.digest.specs.Calls.{Identifies};
 ghost use Rattle.identify.specs.Calls.{SaysLocation, IdentifiesLocation, SaysAllele, IdentifiesAllele};
-ghost use Rattle.register.specs.Calls.{Blanks, Enters, Withdraws, Undoes, Seals};
+ghost use Rattle.entering.specs.Calls.{Enters};
+ghost use Rattle.register.specs.Calls.{Blanks, Withdraws, Undoes, Seals};
 ghost use Rattle.flat.specs.Flat.{flatWritten, flatForm, flatLocation, flatAllele, flatOutcome, flatEntered, flatUndone, Flattened};
 
 // As `digest::sequence_identifier`.
@@ -147,7 +148,7 @@ pub extern "C" fn fv_blank(
     flat_outcome(register::blank(image, residues, digest, records, journal, pool))
 }
 
-// As `register::entry`.
+// As `entering::entry`.
 #[no_mangle]
 pub extern "C" fn fv_entry(
     image: &mut [u8],
@@ -159,7 +160,7 @@ pub extern "C" fn fv_entry(
 ) -> FvEntered
     ensures { λ r. ⌜ Flattened flatEntered (λ a. Enters (now (image .entry)) (now (digest .entry)) (now (reference .entry)) start end (now (replacement .entry)) a (now (image .exit))) r ⌝ }
 {
-    flat_entered(register::entry(image, digest, reference, start, end, replacement))
+    flat_entered(entering::entry(image, digest, reference, start, end, replacement))
 }
 
 // As `register::withdraw`.

@@ -2,8 +2,8 @@
 use super::FvEntered;
 use super::FvOutcome;
 use super::FvUndone;
+use entering::Entered;
 use refusal::Outcome;
-use register::Entered;
 use register::Undone;
 ghost use mathlib.Core.Path.{_≡_};
 ghost use Rattle.flat.specs.Flat.{flatOutcome, flatEntered, flatUndone};

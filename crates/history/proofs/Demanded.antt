@@ -1,11 +1,11 @@
 -- Demand 3, of an image that shows what its history says.
 use Prim.Native.Nat.{ℕ}
-use mathlib.Core.Path.{_≡_, refl}
+use mathlib.Core.Path.{refl}
 use mathlib.Core.Logic.{inl, inr}
 use mathlib.Core.List.{List, _∷_}
 use Rattle.image.specs.Fields.{statusOf}
 use Rattle.history.specs.Events.{Way, Event, entry, undo, new}
-use Rattle.history.specs.Demand.{Active, SomeActive, Demand, EntryDemand, UndoDemand}
+use Rattle.history.specs.Demand.{Active, Demand, EntryDemand, UndoDemand}
 use Rattle.history.proofs.View.{View, Moves}
 use Rattle.history.proofs.Shows.{shows}
 use Rattle.history.proofs.Invariant.{Inv, inv-moved}

@@ -1,22 +1,20 @@
 -- What an entry finds: a number that stands for its altered sequence, or that none does.
-use Prim.Native.Nat.{ℕ, _+_, _<_, _≤_}
+use Prim.Native.Nat.{ℕ, _+_, _≤_}
 use native.Mathlib.Omega.{arith}
-use mathlib.Core.Path.{_≡_, refl, _∙_, sym}
+use mathlib.Core.Path.{_≡_}
 use mathlib.Core.Bool.{true, false}
 use mathlib.Core.List.{List}
 use lib.Dec.{eqb}
 use borrow.Author.Tests.{eqb-true, eqb-false}
-use Rattle.stretch.specs.Same.{same}
 use Rattle.stretch.proofs.Cases.{by-cases}
-use Rattle.normal.specs.Form.{Normal, altered, normal}
+use Rattle.normal.specs.Form.{Normal}
 use Rattle.image.specs.Fields.{issued, statusOf, active, inactive}
-use Rattle.register.specs.declared.Entered.{Entered}
-use Rattle.register.specs.declared.Entered.the-variants.{New, Again, Known}
+use Rattle.entering.specs.declared.Entered.the-variants.{New, Again, Known}
 use Rattle.records.specs.Lookup.{holds, lowestHolding}
-use Rattle.register.specs.Found.{found}
-use Rattle.history.specs.Demand.{Live, sequenceOf}
+use Rattle.entering.specs.Found.{found}
+use Rattle.history.specs.Demand.{Live}
 use Rattle.records.proofs.Lowest.{lowest-passes, lowest-none}
-use Rattle.history.proofs.Proper.{Has, Proper, holds-told, holds-met, has-stands, proper-has}
+use Rattle.history.proofs.Proper.{Has, holds-told, holds-met}
 
 -- number i of this status has the form
 pub record Match (b : List ℕ) (f : Normal) (status i : ℕ) : Type 0 where

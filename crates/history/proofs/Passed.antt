@@ -2,10 +2,10 @@
 use Prim.Native.Nat.{ℕ, _+_, _<_, _≤_}
 use native.Mathlib.Omega.{arith}
 use mathlib.Core.Path.{_≡_, refl}
-use mathlib.Core.Bool.{true, false, not}
+use mathlib.Core.Bool.{true, false}
 use mathlib.Core.List.{List, [], _∷_, _++_}
 use mathlib.Core.Logic.{_⊎_, inl, inr}
-use lib.Dec.{leb, ltb, eqb}
+use lib.Dec.{ltb}
 use lib.ListN.{length}
 use borrow.Author.Tests.{not-false, leb-false, ltb-false, eqb-true, eqb-false}
 use Rattle.stretch.specs.Same.{same}
@@ -15,14 +15,14 @@ use Rattle.refusal.specs.declared.Refusal.{Refusal}
 use Rattle.refusal.proofs.Verdict.{none-holds, verdict-fewer, verdict-later}
 use Rattle.letters.specs.Letters.{base64url, every, firstOutside, digestTextGrounds}
 use Rattle.letters.proofs.Outside.{firstOutside-le, firstOutside-all}
-use Rattle.normal.specs.Form.{Normal, altered, normal}
+use Rattle.normal.specs.Form.{altered, normal}
 use Rattle.normal.specs.Calls.{formGrounds}
-use Rattle.image.specs.Fields.{countLimit, poolLimit, imageSize, recordCapacity, issued, journalCapacity, journalCount, poolCapacity, poolUsed, referenceLength, statusOf, active}
+use Rattle.image.specs.Fields.{countLimit, poolLimit, imageSize, issued, journalCapacity, journalCount, referenceLength, statusOf, active}
 use Rattle.image.specs.Formed.{wellFormed}
-use Rattle.register.specs.declared.Entered.{Entered}
-use Rattle.register.specs.declared.Entered.the-variants.{New, Again, Known}
-use Rattle.register.specs.Found.{found}
-use Rattle.register.specs.Calls.{Does, blankGrounds, withdrawalGrounds, undoGrounds, notFormed, imageGrounds, changeGrounds, roomGrounds, entryGrounds}
+use Rattle.entering.specs.Found.{found}
+use Rattle.records.specs.Does.{Does, notFormed}
+use Rattle.entering.specs.Calls.{imageGrounds, changeGrounds, roomGrounds, entryGrounds}
+use Rattle.register.specs.Calls.{blankGrounds, withdrawalGrounds, undoGrounds}
 
 -- accepted, with what it says; or refused, with the image as it was
 pub record Done {A : Type 0} (v : Verdict) (said : A) (changed : List ℕ) (answer : A) (left : List ℕ) : Type 0 where

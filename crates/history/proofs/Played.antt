@@ -11,12 +11,13 @@ use Rattle.normal.specs.Calls.{formGrounds}
 use Rattle.image.specs.Numbers.{little, bytes, number, numbers, put}
 use Rattle.image.specs.Fields.{headerOf, recordAt, recordOf, replacementOf}
 use Rattle.image.specs.Formed.{laidOut, countsWithin, withinLimits, lengths, recordGood, entryGood, wellFormed}
-use Rattle.register.specs.declared.Entered.the-variants.{New, Again, Known, Refused}
+use Rattle.entering.specs.declared.Entered.the-variants.{New, Again, Known}
 use Rattle.register.specs.declared.Undone.the-variants.{Number}
 use Rattle.records.specs.Lookup.{holds, lowest, lowestHolding}
-use Rattle.register.specs.Found.{found}
+use Rattle.entering.specs.Found.{found}
 use Rattle.records.specs.Changes.{blanked, journalled, marked, withdrawn, reentered, recorded, pooled, counted, numbered, latest, undone, sealed}
-use Rattle.register.specs.Calls.{Blanks, blankGrounds, imageGrounds, changeGrounds, entryGrounds, Enters, withdrawalGrounds, Withdraws, undoGrounds, Undoes, Seals}
+use Rattle.entering.specs.Calls.{imageGrounds, changeGrounds, entryGrounds, Enters}
+use Rattle.register.specs.Calls.{blankGrounds, withdrawalGrounds, Withdraws, undoGrounds, Undoes, Seals}
 use Rattle.history.specs.Runs.{Run, enters, withdraws, undoes, seals}
 use Rattle.history.specs.Example.{Played, reference, digest, events, blank, one, oneUndone, two, oneAgain, oneWithdrawn, closed}
 

@@ -1,7 +1,7 @@
 -- Demand 3: every run from a blank image, whatever calls it is made of, and any run from a history and an image that agree.
-use Prim.Native.Nat.{ℕ, _≤_}
+use Prim.Native.Nat.{ℕ}
 use native.Mathlib.Omega.{arith}
-use mathlib.Core.Path.{_≡_, refl, sym, subst}
+use mathlib.Core.Path.{_≡_, sym, subst}
 use mathlib.Core.Bool.{true}
 use mathlib.Core.List.{List, [], _∷_, _++_, append-nil}
 use lib.ListN.{length}
@@ -9,19 +9,17 @@ use Rattle.refusal.specs.declared.Outcome.the-variants.{Accepted}
 use Rattle.image.specs.Formed.{wellFormed}
 use Rattle.refusal.proofs.Verdict.{outcome-accepted}
 use Rattle.refusal.specs.Verdict.{verdict}
-use Rattle.image.specs.Fields.{issued, journalCount}
 use Rattle.records.specs.Changes.{blanked}
 use Rattle.register.specs.Calls.{Blanks, blankGrounds}
 use Rattle.history.proofs.Passed.{blankable}
 use Rattle.history.proofs.SeenBlank.{blanked-seen}
 use Rattle.history.proofs.BlankFormed.{fresh-formed}
-use Rattle.history.proofs.Seen.{Fresh}
 use Rattle.history.specs.Events.{Way, Event, entry, undo}
 use Rattle.history.specs.Runs.{Run}
 use Rattle.history.specs.Demand.{Live, Demand, EntryDemand, UndoDemand}
 use Rattle.history.proofs.Invariant.{Inv, inv-empty, inv-moved}
 use Rattle.history.proofs.Shows.{shows}
-use Rattle.history.proofs.Steps.{State, Step, step}
+use Rattle.history.proofs.Steps.{State, step}
 use Rattle.history.proofs.Demanded.{demanded, entry-demanded, undo-demanded}
 
 -- a history and an image that agree

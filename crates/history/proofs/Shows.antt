@@ -1,17 +1,15 @@
 -- What an image shows, and how the changes that are seen of it move that.
-use Prim.Native.Nat.{ℕ, suc, _+_, _<_, _≤_}
+use Prim.Native.Nat.{ℕ, _+_}
 use native.Mathlib.Omega.{arith}
 use native.Mathlib.Nat.{eq-or-lt-of-le}
-use mathlib.Core.Path.{_≡_, _∙_, sym, ap, subst}
-use mathlib.Core.Bool.{false}
+use mathlib.Core.Path.{_≡_, _∙_, sym, subst}
 use mathlib.Core.Logic.{⊎-elim}
 use mathlib.Core.List.{List}
-use Rattle.stretch.specs.Same.{same}
-use Rattle.normal.specs.Form.{Normal, altered, changedForm, normal}
+use Rattle.normal.specs.Form.{Normal, altered, changedForm}
 use Rattle.image.specs.Fields.{issued, journalCount, statusOf, entryOf}
 use Rattle.history.specs.Demand.{Live, sequenceOf}
-use Rattle.history.proofs.Proper.{Has, Proper, has-stands, has-proper}
-use Rattle.history.proofs.Seen.{Kept, Stays, Restated, Journalled, TakenBack, Closed, Issues}
+use Rattle.history.proofs.Proper.{Has, Proper}
+use Rattle.history.proofs.Seen.{Kept, Stays, Restated, Journalled, Closed, Issues}
 use Rattle.history.proofs.View.{View, Keeps, Changes, Sealed}
 
 abbrev pub shows : List ℕ → List ℕ → View

@@ -2,14 +2,12 @@
 use Prim.Native.Nat.{ℕ, zero, suc, _+_, _-_, _<_, _≤_}
 use native.Mathlib.Omega.{arith}
 use mathlib.Core.Path.{_≡_, refl, _∙_, sym, ap, subst}
-use mathlib.Core.Bool.{true, false}
+use mathlib.Core.Bool.{true}
 use mathlib.Core.Logic.{_⊎_, inl, inr, ⊎-elim}
 use mathlib.Core.List.{List, [], _∷_}
-use lib.Dec.{leb, ltb}
 use lib.ListN.{length}
 use borrow.Author.Tests.{leb-false, ltb-false}
-use Rattle.refusal.specs.Verdict.{Verdict, verdict, accepted}
-use Rattle.refusal.specs.declared.Outcome.{Outcome}
+use Rattle.refusal.specs.Verdict.{verdict, accepted}
 use Rattle.refusal.specs.declared.Outcome.the-variants.{Accepted, Refused}
 use Rattle.refusal.proofs.Verdict.{none-holds, verdict-later}
 use Rattle.letters.specs.Letters.{residue, every, foreign}
@@ -20,29 +18,30 @@ use Rattle.normal.proofs.Answers.{clean-allele}
 use Rattle.normal.proofs.Laws.{normal-ordered, normal-inside}
 use Rattle.image.specs.Fields.{issued, recordCapacity, journalCount, journalCapacity, poolUsed, poolCapacity, statusOf, entryOf, active, inactive}
 use Rattle.image.specs.Formed.{wellFormed}
-use Rattle.image.proofs.WellFormed.{Formed, FormedEntry, formed}
+use Rattle.image.proofs.WellFormed.{FormedEntry, formed}
 use Rattle.image.proofs.Lengths.{formed-inside}
-use Rattle.register.specs.declared.Entered.{Entered}
-use Rattle.register.specs.declared.Entered.the-variants.{New, Again, Known, Refused as Unentered}
-use Rattle.register.specs.declared.Undone.{Undone}
+use Rattle.entering.specs.declared.Entered.{Entered}
+use Rattle.entering.specs.declared.Entered.the-variants.{New, Again, Refused as Unentered}
 use Rattle.register.specs.declared.Undone.the-variants.{Number, Refused as NotUndone}
-use Rattle.register.specs.Found.{found}
+use Rattle.entering.specs.Found.{found}
 use Rattle.records.specs.Changes.{withdrawn, reentered, numbered, undone, latest, sealed}
-use Rattle.register.specs.Found.{entered}
-use Rattle.register.specs.Calls.{Enters, Withdraws, Undoes, Seals, withdrawalGrounds, undoGrounds, notFormed, entryGrounds, roomGrounds}
+use Rattle.entering.specs.Found.{entered}
+use Rattle.records.specs.Does.{notFormed}
+use Rattle.entering.specs.Calls.{Enters, entryGrounds, roomGrounds}
+use Rattle.register.specs.Calls.{Withdraws, Undoes, Seals, withdrawalGrounds, undoGrounds}
 use Rattle.history.specs.Events.{Event, entry, withdrawal, undo, seal, refusal, new, again, known}
 use Rattle.history.specs.Runs.{Call, enters, withdraws, undoes, seals, entryEvent, undoEvent, outcomeEvent}
 use Rattle.history.specs.Demand.{Live, sequenceOf}
 use Rattle.history.proofs.Found.{Match, Finding, active-as, withdrawn-as, nowhere, finding}
-use Rattle.history.proofs.Passed.{Done, Left, done-or-left, Withdrawable, withdrawable, Undoable, undoable, sealable, Enterable, enterable}
-use Rattle.history.proofs.Proper.{Has, Proper, has-stands, has-proper, proper-has}
-use Rattle.history.proofs.Seen.{Journalled, TakenBack, Closed, Issues}
+use Rattle.history.proofs.Passed.{done-or-left, Withdrawable, withdrawable, Undoable, undoable, sealable, Enterable, enterable}
+use Rattle.history.proofs.Proper.{Proper, has-stands, has-proper, proper-has}
+use Rattle.history.proofs.Seen.{Journalled}
 use Rattle.history.proofs.SeenNew.{numbered-seen}
 use Rattle.history.proofs.SeenStatus.{withdrawn-seen, reentered-seen, undone-seen, sealed-seen}
 use Rattle.history.proofs.IssuedFormed.{issues-formed}
 use Rattle.history.proofs.StayFormed.{journalled-formed, taken-back-formed, closed-formed}
 use Rattle.history.proofs.Shows.{shows, stays-proper, kept-proper, restated-keeps, journalled-changes, closed-sealed, issues-cases, issues-changes, issues-has}
-use Rattle.history.proofs.View.{View, Moves}
+use Rattle.history.proofs.View.{Moves}
 
 zero-or-one : (s : ℕ) → s ≤ 1 → (s ≡ 0) ⊎ (s ≡ 1)
 zero-or-one zero h = inl refl

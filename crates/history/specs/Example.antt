@@ -7,11 +7,12 @@ use lib.ListN.{replicate}
 use Rattle.stretch.specs.Ascii.{ascii}
 use Rattle.refusal.specs.declared.Outcome.the-variants.{Accepted}
 use Rattle.normal.specs.Form.{altered, normal}
-use Rattle.register.specs.declared.Entered.{Entered}
-use Rattle.register.specs.declared.Entered.the-variants.{New, Again, Known, Refused}
+use Rattle.entering.specs.declared.Entered.{Entered}
+use Rattle.entering.specs.declared.Entered.the-variants.{New, Again, Known, Refused}
 use Rattle.register.specs.declared.Undone.the-variants.{Number}
 use Rattle.records.specs.Changes.{blanked, numbered, reentered, withdrawn, undone, sealed}
-use Rattle.register.specs.Calls.{Blanks, Enters, Withdraws, Undoes, Seals}
+use Rattle.entering.specs.Calls.{Enters}
+use Rattle.register.specs.Calls.{Blanks, Withdraws, Undoes, Seals}
 use Rattle.history.specs.Events.{Event, entry, new, again, known, undo, withdrawal, seal, refusal}
 
 abbrev pub reference : List ℕ

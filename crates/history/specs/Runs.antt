@@ -5,11 +5,12 @@ use mathlib.Core.List.{List, [], _∷_}
 use Rattle.refusal.specs.declared.Outcome.{Outcome}
 use Rattle.refusal.specs.declared.Outcome.the-variants.{Accepted, Refused}
 use Rattle.normal.specs.Form.{altered}
-use Rattle.register.specs.declared.Entered.{Entered}
-use Rattle.register.specs.declared.Entered.the-variants.{New, Again, Known, Refused as Unentered}
+use Rattle.entering.specs.declared.Entered.{Entered}
+use Rattle.entering.specs.declared.Entered.the-variants.{New, Again, Known, Refused as Unentered}
 use Rattle.register.specs.declared.Undone.{Undone}
 use Rattle.register.specs.declared.Undone.the-variants.{Number, Refused as NotUndone}
-use Rattle.register.specs.Calls.{Enters, Withdraws, Undoes, Seals}
+use Rattle.entering.specs.Calls.{Enters}
+use Rattle.register.specs.Calls.{Withdraws, Undoes, Seals}
 use Rattle.history.specs.Events.{Event, entry, withdrawal, undo, seal, refusal, new, again, known}
 
 -- what an answer is in the history

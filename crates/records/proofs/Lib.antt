@@ -3,3 +3,4 @@ pub mod Joined
 pub mod Held
 pub mod Three
 pub mod Rows
+pub mod Does

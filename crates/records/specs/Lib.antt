@@ -1,2 +1,3 @@
 pub mod Lookup
 pub mod Changes
+pub mod Does

@@ -1,6 +1,7 @@
 // The records of a well-formed image: how a normal form is found among them, and what changes write.
 //
-// specs/Lookup.antt has how a form is found, and specs/Changes.antt what each change leaves of the image.
+// specs/Lookup.antt has how a form is found, specs/Changes.antt what each change leaves of the image, and
+// specs/Does.antt what a call on an image promises.
 mod find;
 mod write;
 

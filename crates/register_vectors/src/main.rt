@@ -1,11 +1,11 @@
 // Prints document 01's register example: each call and its answer on a line, then the buffer. They have
 // to be those of the file stdout, which a second program makes, tests/second/register_vectors.py.
+use entering::Entered;
 use print::hex;
 use print::labelled;
 use print::refused;
 use print::text;
 use refusal::Outcome;
-use register::Entered;
 use register::Undone;
 
 // The image takes 143 bytes of the buffer; what stands behind it is to stay.
@@ -73,7 +73,7 @@ fn entry(image: &mut [u8], start: u64, end: u64, replacement: &[u8]) {
     labelled(b" ", end);
     text(b" ");
     text(replacement);
-    entered(register::entry(image, &DIGEST, &REFERENCE, start, end, replacement));
+    entered(entering::entry(image, &DIGEST, &REFERENCE, start, end, replacement));
     left(image);
 }
 

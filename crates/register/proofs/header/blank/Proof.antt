@@ -2,7 +2,7 @@
 use mathlib.Core.Path.{refl, _∙_, sym}
 use borrow.Author.Needs.{needs}
 use Rattle.refusal.proofs.Verdict.{outcome-accepted, outcome-refused}
-use Rattle.register.proofs.Answers.{does-refused, does-accepted}
+use Rattle.records.proofs.Does.{does-refused, does-accepted}
 use Rattle.register.proofs.BlankTests.{blank-digest-long, blank-records, blank-journal, blank-room}
 use Rattle.register.proofs.header.blank.Statement.{statement}
 use Rattle.register.proofs.header.blank.Tie as tie

@@ -6,7 +6,7 @@ use borrow.Author.Needs.{needs}
 use Rattle.image.proofs.WellFormed.{formed}
 use Rattle.records.specs.Changes.{sealed}
 use Rattle.register.specs.Calls.{Seals}
-use Rattle.register.proofs.Answers.{does-refused, does-accepted}
+use Rattle.records.proofs.Does.{does-refused, does-accepted}
 use Rattle.register.proofs.undoing.seal.Statement.{statement}
 use Rattle.register.proofs.undoing.seal.Tie as tie
 

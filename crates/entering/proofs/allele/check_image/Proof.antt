@@ -4,9 +4,9 @@ use mathlib.Core.Path.{_∙_, sym}
 use borrow.Author.Tests.{not-true, not-false, eq-eqb, ne-eqb}
 use borrow.Author.Needs.{needs}
 use Rattle.image.proofs.WellFormed.{formed}
-use Rattle.register.specs.Calls.{imageGrounds}
-use Rattle.register.proofs.entering.check_image.Statement.{statement}
-use Rattle.register.proofs.entering.check_image.Tie as tie
+use Rattle.entering.specs.Calls.{imageGrounds}
+use Rattle.entering.proofs.allele.check_image.Statement.{statement}
+use Rattle.entering.proofs.allele.check_image.Tie as tie
 
 well-formed-requires : tie.Need-well-formed-requires
 well-formed-requires c κs = search needs

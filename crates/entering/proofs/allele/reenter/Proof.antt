@@ -3,9 +3,9 @@ use mathlib.Core.Path.{refl}
 use borrow.Author.Tests.{le-leb, lt-leb}
 use borrow.Author.Needs.{needs}
 use Rattle.records.specs.Changes.{reentered}
-use Rattle.register.proofs.Answers.{does-refused, does-accepted}
-use Rattle.register.proofs.entering.reenter.Statement.{statement}
-use Rattle.register.proofs.entering.reenter.Tie as tie
+use Rattle.records.proofs.Does.{does-refused, does-accepted}
+use Rattle.entering.proofs.allele.reenter.Statement.{statement}
+use Rattle.entering.proofs.allele.reenter.Tie as tie
 
 read-number-requires : tie.Need-read-number-requires
 read-number-requires c κs = search needs

@@ -21,13 +21,13 @@ use Rattle.normal.specs.Calls.{formGrounds, locatedClean}
 use Rattle.normal.proofs.Answers.{told-accepted, told-refused, clean-accepted, clean-refused, clean-allele}
 use Rattle.normal.proofs.Join.{stretches-fit, stretches-join}
 use Rattle.image.specs.Formed.{wellFormed}
-use Rattle.register.specs.declared.Entered.{Entered}
-use Rattle.register.specs.declared.Entered.the-variants.{Refused as Unentered}
-use Rattle.register.specs.Found.{found}
-use Rattle.register.specs.Found.{entered}
-use Rattle.register.specs.Inner.{unchanged, imageAnswer, changeAnswer, EntersAs, EntersAllele}
-use Rattle.register.specs.Calls.{Does, imageGrounds, changeGrounds, roomGrounds, EntersForm, entryGrounds, Enters}
-use Rattle.register.proofs.Answers.{does-refused, does-as}
+use Rattle.records.specs.Does.{Does}
+use Rattle.records.proofs.Does.{does-refused, does-as}
+use Rattle.entering.specs.declared.Entered.{Entered}
+use Rattle.entering.specs.declared.Entered.the-variants.{Refused as Unentered}
+use Rattle.entering.specs.Found.{found, entered}
+use Rattle.entering.specs.Inner.{unchanged, imageAnswer, changeAnswer, EntersAs, EntersAllele}
+use Rattle.entering.specs.Calls.{imageGrounds, changeGrounds, roomGrounds, EntersForm, entryGrounds, Enters}
 
 -- 12 behind 1 to 5
 module _ (r : List ℕ) (start end : ℕ) (x : List ℕ) where

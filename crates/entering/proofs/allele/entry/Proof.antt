@@ -2,9 +2,9 @@
 use mathlib.Core.Path.{_∙_, sym}
 use borrow.Author.Needs.{needs}
 use Rattle.image.proofs.WellFormed.{formed}
-use Rattle.register.proofs.EntryTests.{enters-on, enters-nothing, image-formed}
-use Rattle.register.proofs.entering.entry.Statement.{statement}
-use Rattle.register.proofs.entering.entry.Tie as tie
+use Rattle.entering.proofs.EntryTests.{enters-on, enters-nothing, image-formed}
+use Rattle.entering.proofs.allele.entry.Statement.{statement}
+use Rattle.entering.proofs.allele.entry.Tie as tie
 
 check-image-requires : tie.Need-check-image-requires
 check-image-requires c κs = search needs

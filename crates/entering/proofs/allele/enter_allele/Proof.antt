@@ -1,9 +1,9 @@
 -- The tests, and the form behind them.
 use mathlib.Core.Path.{_∙_, sym}
 use borrow.Author.Needs.{needs}
-use Rattle.register.proofs.EntryTests.{change-fits, enters-allele, enters-no-allele}
-use Rattle.register.proofs.entering.enter_allele.Statement.{statement}
-use Rattle.register.proofs.entering.enter_allele.Tie as tie
+use Rattle.entering.proofs.EntryTests.{change-fits, enters-allele, enters-no-allele}
+use Rattle.entering.proofs.allele.enter_allele.Statement.{statement}
+use Rattle.entering.proofs.allele.enter_allele.Tie as tie
 
 check-change-requires : tie.Need-check-change-requires
 check-change-requires c κs = search needs

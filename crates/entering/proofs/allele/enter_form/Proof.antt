@@ -2,11 +2,11 @@
 use native.Mathlib.Omega.{arith}
 use mathlib.Core.Path.{refl}
 use borrow.Author.Needs.{needs}
-use Rattle.register.proofs.Answers.{does-accepted}
-use Rattle.register.proofs.EntryTests.{enters-as}
-use Rattle.register.proofs.Finding.{found-known, found-again, found-new}
-use Rattle.register.proofs.entering.enter_form.Statement.{statement}
-use Rattle.register.proofs.entering.enter_form.Tie as tie
+use Rattle.records.proofs.Does.{does-accepted}
+use Rattle.entering.proofs.EntryTests.{enters-as}
+use Rattle.entering.proofs.Finding.{found-known, found-again, found-new}
+use Rattle.entering.proofs.allele.enter_form.Statement.{statement}
+use Rattle.entering.proofs.allele.enter_form.Tie as tie
 
 lowest-holding-requires : tie.Need-lowest-holding-requires
 lowest-holding-requires c κs = search needs

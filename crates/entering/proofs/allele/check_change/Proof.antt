@@ -1,9 +1,9 @@
 -- 1 to 5, and 12 behind them.
 use mathlib.Core.Path.{_∙_, sym}
 use borrow.Author.Needs.{needs}
-use Rattle.register.proofs.EntryTests.{change-none, change-found, change-unfound}
-use Rattle.register.proofs.entering.check_change.Statement.{statement}
-use Rattle.register.proofs.entering.check_change.Tie as tie
+use Rattle.entering.proofs.EntryTests.{change-none, change-found, change-unfound}
+use Rattle.entering.proofs.allele.check_change.Statement.{statement}
+use Rattle.entering.proofs.allele.check_change.Tie as tie
 
 locate-clean-requires : tie.Need-locate-clean-requires
 locate-clean-requires c κs = search needs

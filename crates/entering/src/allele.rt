@@ -42,11 +42,12 @@ ghost use Rattle.normal.specs.Stretches.{Fits, formIn};
 ghost use Rattle.image.specs.Fields.{issued};
 ghost use Rattle.image.specs.Formed.{wellFormed};
 ghost use Rattle.image.specs.Header.{Header};
-ghost use Rattle.register.specs.declared.Entered.the-variants.{New, Again, Refused};
-ghost use Rattle.records.specs.Changes.{reentered};
-ghost use Rattle.register.specs.Calls.{Does, journalFull, EntersForm, Enters};
 ghost use Rattle.records.specs.Lookup.{asked};
-ghost use Rattle.register.specs.Inner.{unchanged, imageAnswer, changeAnswer, EntersAs, EntersAllele};
+ghost use Rattle.records.specs.Changes.{reentered};
+ghost use Rattle.records.specs.Does.{Does, journalFull};
+ghost use Rattle.entering.specs.declared.Entered.the-variants.{New, Again, Refused};
+ghost use Rattle.entering.specs.Calls.{EntersForm, Enters};
+ghost use Rattle.entering.specs.Inner.{unchanged, imageAnswer, changeAnswer, EntersAs, EntersAllele};
 
 // 10, 11.
 fn check_image(image: &[u8], digest: &[u8], reference: &[u8]) -> Outcome

@@ -6,9 +6,9 @@ use mathlib.Core.List.{List}
 use borrow.Author.Tests.{ne-eqb}
 use Rattle.normal.specs.Form.{Normal}
 use Rattle.image.specs.Fields.{issued, active, inactive}
-use Rattle.register.specs.declared.Entered.the-variants.{New, Again, Known}
+use Rattle.entering.specs.declared.Entered.the-variants.{New, Again, Known}
 use Rattle.records.specs.Lookup.{lowestHolding}
-use Rattle.register.specs.Found.{found}
+use Rattle.entering.specs.Found.{found}
 
 module _ (b : List ℕ) (f : Normal) where
   pub found-known : (k : ℕ) → k ≡ lowestHolding b active f → 1 ≤ k → found b f ≡ Known k

@@ -1,9 +1,9 @@
 -- The stretches are lent as they lie.
 use borrow.Author.Needs.{needs}
 use Rattle.normal.specs.Stretches.{joined}
-use Rattle.register.proofs.Stretched.{stretches-long}
-use Rattle.register.proofs.entering.enter_stretches.Statement.{statement}
-use Rattle.register.proofs.entering.enter_stretches.Tie as tie
+use Rattle.entering.proofs.Stretched.{stretches-long}
+use Rattle.entering.proofs.allele.enter_stretches.Statement.{statement}
+use Rattle.entering.proofs.allele.enter_stretches.Tie as tie
 
 joined-length-requires : tie.Need-joined-length-requires
 joined-length-requires c κs = search needs

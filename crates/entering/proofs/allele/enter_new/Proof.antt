@@ -4,11 +4,11 @@ use native.Mathlib.Omega.{arith}
 use mathlib.Core.Path.{_∙_, sym, ap}
 use borrow.Author.Tests.{ltb-false, le-leb, lt-leb}
 use borrow.Author.Needs.{needs}
-use Rattle.register.specs.declared.Entered.the-variants.{New}
-use Rattle.register.proofs.Answers.{does-refused, does-accepted}
+use Rattle.entering.specs.declared.Entered.the-variants.{New}
+use Rattle.records.proofs.Does.{does-refused, does-accepted}
 use Rattle.records.proofs.Three.{length-three}
-use Rattle.register.proofs.entering.enter_new.Statement.{statement}
-use Rattle.register.proofs.entering.enter_new.Tie as tie
+use Rattle.entering.proofs.allele.enter_new.Statement.{statement}
+use Rattle.entering.proofs.allele.enter_new.Tie as tie
 
 read-number-requires : tie.Need-read-number-requires
 read-number-requires c κs = search needs

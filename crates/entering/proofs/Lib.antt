@@ -1,0 +1,4 @@
+pub mod EntryTests
+pub mod Finding
+pub mod Promises
+pub mod Stretched

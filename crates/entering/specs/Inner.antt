@@ -1,0 +1,38 @@
+-- What the functions behind an entry's tests promise.
+use Prim.Native.Nat.{ℕ}
+use mathlib.Core.Bool.{Bool, true, false}
+use mathlib.Core.List.{List, _++_}
+use Rattle.refusal.specs.Verdict.{verdict, tell}
+use Rattle.refusal.specs.declared.Outcome.{Outcome}
+use Rattle.refusal.specs.declared.Outcome.the-variants.{Accepted, Refused}
+use Rattle.normal.specs.declared.Kind.{Kind}
+use Rattle.normal.specs.declared.Kind.the-variants.{Unchanged, Substitution, Indel}
+use Rattle.normal.specs.declared.Located.{Located}
+use Rattle.normal.specs.declared.Located.the-variants.{Accepted as Found, Refused as Unfound}
+use Rattle.normal.specs.Form.{Normal, normal}
+use Rattle.normal.specs.Stretches.{stretchesOf}
+use Rattle.records.specs.Does.{Does}
+use Rattle.entering.specs.declared.Entered.{Entered}
+use Rattle.entering.specs.declared.Entered.the-variants.{Refused as Unentered}
+use Rattle.entering.specs.Found.{found, entered}
+use Rattle.entering.specs.Calls.{imageGrounds, changeGrounds, roomGrounds}
+
+abbrev pub unchanged : Kind → Bool
+unchanged Unchanged = true
+unchanged Substitution = false
+unchanged Indel = false
+
+-- the image's grounds, the allele's, those of a form that was found so, and of an allele on an image that has passed
+abbrev pub imageAnswer : List ℕ → List ℕ → List ℕ → Outcome
+imageAnswer b digest r = tell Refused (verdict (imageGrounds b digest r)) Accepted
+
+abbrev pub changeAnswer : List ℕ → ℕ → ℕ → List ℕ → Located
+changeAnswer r start end x = tell Unfound (verdict (changeGrounds r start end x)) (Found (stretchesOf r start end x))
+
+abbrev pub EntersAs : List ℕ → Normal → Entered → Entered → List ℕ → Type 0
+EntersAs b f said = Does Unentered (verdict (roomGrounds b f said)) said b (entered b f said)
+
+unfoldable pub EntersAllele : List ℕ → List ℕ → ℕ → ℕ → List ℕ → Entered → List ℕ → Type 0
+EntersAllele b r start end x =
+    let f = normal r start end x in
+    Does Unentered (verdict (changeGrounds r start end x ++ roomGrounds b f (found b f))) (found b f) b (entered b f (found b f))
