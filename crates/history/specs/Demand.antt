@@ -43,7 +43,7 @@ pub record EntryDemand (r : List ℕ) (h : List Event) (b : List ℕ) (w : Way) 
   pub active : Active r b i t
   -- its number is an earlier one exactly when the entry that issued that one made the same sequence
   pub earlier : (j : ℕ) (u : List ℕ) → Occurs (entry new j u) h → (i ≡ j) ↔ (t ≡ u)
-  -- and it is new exactly when none did
+  -- and it is new exactly when no entry before it was answered with its number
   pub first : (w ≡ new) ↔ ((v : Way) (u : List ℕ) → Occurs (entry v i u) h → ⊥)
 
 -- and of the undo that was accepted last: it took back the latest change that stood, which was not sealed, and answered its number
