@@ -5,24 +5,20 @@ use mathlib.Core.Path.{_≡_, refl}
 use mathlib.Core.Bool.{true, false}
 use mathlib.Core.List.{List, [], _∷_, _++_}
 use mathlib.Core.Logic.{_⊎_, inl, inr}
-use lib.Dec.{ltb}
 use lib.ListN.{length}
 use borrow.Author.Tests.{not-false, leb-false, ltb-false, eqb-true, eqb-false}
 use Rattle.stretch.specs.Same.{same}
-use Rattle.refusal.specs.Limits.{referenceLimit}
 use Rattle.refusal.specs.Verdict.{Verdict, accepted, refused, verdict, ground}
 use Rattle.refusal.specs.declared.Refusal.{Refusal}
 use Rattle.refusal.proofs.Verdict.{none-holds, verdict-fewer, verdict-later}
-use Rattle.letters.specs.Letters.{base64url, every, firstOutside, digestTextGrounds}
-use Rattle.letters.proofs.Outside.{firstOutside-le, firstOutside-all}
 use Rattle.normal.specs.Form.{altered, normal}
 use Rattle.normal.specs.Calls.{formGrounds}
-use Rattle.image.specs.Fields.{countLimit, poolLimit, imageSize, issued, journalCapacity, journalCount, referenceLength, statusOf, active}
+use Rattle.image.specs.Fields.{issued, journalCapacity, journalCount, referenceLength, statusOf, active}
 use Rattle.image.specs.Formed.{wellFormed}
 use Rattle.entering.specs.Found.{found}
 use Rattle.records.specs.Does.{Does, notFormed}
 use Rattle.entering.specs.Calls.{imageGrounds, changeGrounds, roomGrounds, entryGrounds}
-use Rattle.register.specs.Calls.{blankGrounds, withdrawalGrounds, undoGrounds}
+use Rattle.register.specs.Calls.{withdrawalGrounds, undoGrounds}
 
 -- accepted, with what it says; or refused, with the image as it was
 pub record Done {A : Type 0} (v : Verdict) (said : A) (changed : List ℕ) (answer : A) (left : List ℕ) : Type 0 where
@@ -39,42 +35,6 @@ pub done-or-left : {A : Type 0} (refuses : Refusal → A) (v : Verdict) (said : 
     → Does refuses v said b changed answer left → Done v said changed answer left ⊎ Left refuses b answer left
 done-or-left refuses accepted said b changed answer left p = inl (record { passed = refl; answers = p .answers; leaves = p .leaves })
 done-or-left refuses (refused r) said b changed answer left p = inr (record { why = r; answers = p .answers; leaves = p .leaves })
-
--- an accepted blank: the reference's length and the capacities within their limits, 32 base64url characters, and room
-pub record Blankable (room n : ℕ) (digest : List ℕ) (records journal pool : ℕ) : Type 0 where
-  pub reference : n ≤ referenceLimit
-  pub long : length digest ≡ 32
-  pub characters : every base64url digest ≡ true
-  pub records-limit : records ≤ countLimit
-  pub journal-limit : journal ≤ countLimit
-  pub pool-limit : pool ≤ poolLimit
-  pub fits : imageSize records journal pool ≤ room
-
-pub blankable : (room n : ℕ) (digest : List ℕ) (records journal pool : ℕ) → verdict (blankGrounds room n digest records journal pool) ≡ accepted
-    → Blankable room n digest records journal pool
-unfolding blankGrounds digestTextGrounds
-blankable room n digest records journal pool v =
-    let one = ground (ltb referenceLimit n) 1 0 ∷ [] in
-    let size = imageSize records journal pool in
-    let nine =
-    ground (ltb countLimit records) 9 0
-    ∷ ground (ltb countLimit journal) 9 0
-    ∷ ground (ltb poolLimit pool) 9 0
-    ∷ ground (ltb room size) 9 size
-    ∷ [] in
-    let rest = verdict-later one (digestTextGrounds digest ++ nine) v in
-    let seven = verdict-fewer (digestTextGrounds digest) nine rest in
-    let last = verdict-later (digestTextGrounds digest) nine rest in
-    let outside = ltb-false (firstOutside base64url digest) (length digest) (none-holds (digestTextGrounds digest) seven 1) in
-    record {
-      reference = ltb-false referenceLimit n (none-holds one (verdict-fewer one (digestTextGrounds digest ++ nine) v) 0);
-      long = eqb-true (length digest) 32 (not-false _ (none-holds (digestTextGrounds digest) seven 0));
-      characters = firstOutside-all base64url digest (omega (arith, outside, firstOutside-le base64url digest));
-      records-limit = ltb-false countLimit records (none-holds nine last 0);
-      journal-limit = ltb-false countLimit journal (none-holds nine last 1);
-      pool-limit = ltb-false poolLimit pool (none-holds nine last 2);
-      fits = ltb-false room size (none-holds nine last 3);
-    }
 
 pub record Withdrawable (b : List ℕ) (i : ℕ) : Type 0 where
   pub formed : wellFormed b ≡ true

@@ -1,17 +1,15 @@
 -- Records that are the normal forms of changed alleles: found by value exactly where found by their altered sequences.
-use Prim.Native.Nat.{ℕ, zero, suc}
-use mathlib.Core.Path.{_≡_, refl, _∙_, sym, ap, subst}
-use mathlib.Core.Bool.{Bool, true, false}
-use mathlib.Core.List.{List, [], _∷_}
-use lib.Dec.{eqb}
-use lib.ListN.{getD}
+use Prim.Native.Nat.{ℕ}
+use mathlib.Core.Path.{_≡_, _∙_, sym, ap, subst}
+use mathlib.Core.Bool.{true, false}
+use mathlib.Core.List.{List}
 use borrow.Author.Tests.{eq-eqb, eqb-true}
 use Rattle.stretch.specs.Same.{same}
 use Rattle.stretch.proofs.Same.{same-refl, same-eq}
 use Rattle.normal.specs.Form.{Normal, altered, changedForm, normal}
 use Rattle.normal.proofs.Laws.{yields, normal-changed}
 use Rattle.image.specs.Fields.{startOf, endOf, statusOf, replacementOf}
-use Rattle.image.specs.Formed.{all}
+use Rattle.image.proofs.Tests.{both, last}
 use Rattle.records.specs.Lookup.{holds}
 use Rattle.history.specs.Demand.{sequenceOf}
 
@@ -26,19 +24,15 @@ pub record Proper (r b : List ℕ) (i : ℕ) : Type 0 where
   pub changed : same r (sequenceOf r b i) ≡ false
   pub form : Has b i (changedForm r (sequenceOf r b i))
 
-each : (ts : List Bool) → all ts ≡ true → (i : ℕ) → getD ts i true ≡ true
-each [] h i = refl
-each (true ∷ ts) h zero = refl
-each (true ∷ ts) h (suc i) = each ts h i
-each (false ∷ ts) h i = cc
-
 module _ (b : List ℕ) (status : ℕ) (f : Normal) (i : ℕ) where
   pub holds-told : holds b status f i ≡ true → (statusOf b i ≡ status) × Has b i f
   unfolding holds
   holds-told h =
-      let tests = eqb (statusOf b i) status ∷ eqb (startOf b i) (f .start) ∷ eqb (endOf b i) (f .end) ∷ same (replacementOf b i) (f .replacement) ∷ [] in (
-        eqb-true _ _ (each tests h 0),
-        record { start = eqb-true _ _ (each tests h 1); end = eqb-true _ _ (each tests h 2); replacement = same-eq _ _ (each tests h 3) },
+      let status-is = both _ _ h in
+      let start = both _ _ (status-is .1) in
+      let end = both _ _ (start .1) in (
+        eqb-true _ _ (status-is .0),
+        record { start = eqb-true _ _ (start .0); end = eqb-true _ _ (end .0); replacement = same-eq _ _ (last _ (end .1)) },
       )
 
   pub holds-met : statusOf b i ≡ status → Has b i f → holds b status f i ≡ true

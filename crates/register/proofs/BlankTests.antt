@@ -1,10 +1,10 @@
--- What the answers of the tests of a blank image tell.
+-- The answers of the tests of a blank image, one behind the other, and what an accepted one tells of its arguments.
 use Prim.Native.Nat.{ℕ, _≤_}
 use native.Mathlib.Omega.{arith}
 use mathlib.Core.Path.{_≡_}
-use mathlib.Core.Bool.{false}
+use mathlib.Core.Bool.{true, false}
 use mathlib.Core.List.{List, [], _∷_, _++_}
-use lib.Dec.{eqb, ltb}
+use lib.Dec.{ltb}
 use lib.ListN.{length}
 use borrow.Author.Tests.{eqb-true, ltb-false, not-false}
 use Rattle.refusal.specs.Limits.{referenceLimit}
@@ -12,10 +12,11 @@ use Rattle.refusal.specs.declared.Refusal.{Refusal}
 use Rattle.refusal.specs.declared.Outcome.the-variants.{Accepted, Refused}
 use Rattle.refusal.specs.Verdict.{ground, accepted, verdict}
 use Rattle.refusal.proofs.Verdict.{none-holds, verdict-first, verdict-then, verdict-fewer, verdict-later, outcome-accepted, outcome-refused}
-use Rattle.letters.specs.Letters.{digestTextGrounds, digestTextAnswer}
-use Rattle.image.specs.Fields.{headerSize, countLimit, imageSize}
-use Rattle.register.specs.Inner.{capacityGrounds, capacityAnswer, blankAnswer}
-use Rattle.register.specs.Calls.{blankGrounds}
+use Rattle.letters.specs.Letters.{base64url, every, firstOutside, digestTextGrounds, digestTextAnswer}
+use Rattle.letters.proofs.Outside.{firstOutside-le, firstOutside-all}
+use Rattle.image.specs.Fields.{countLimit, poolLimit, imageSize}
+use Rattle.register.specs.Calls.{capacityGrounds, blankGrounds}
+use Rattle.register.specs.Inner.{capacityAnswer, blankAnswer}
 
 -- 9 behind 1 and 7
 module _ (room n : ℕ) (digest : List ℕ) (records journal pool : ℕ) where
@@ -29,28 +30,33 @@ module _ (room n : ℕ) (digest : List ℕ) (records journal pool : ℕ) where
   unfolding blankGrounds
   blank-digest l why e = rw (l, verdict-first (digestTextGrounds digest) (capacityGrounds room records journal pool) why (outcome-refused _ why e))
 
-  -- what its tests leave
-  module _ (e : Accepted ≡ blankAnswer room n digest records journal pool) where
-    rest : verdict (digestTextGrounds digest ++ capacityGrounds room records journal pool) ≡ accepted
-    unfolding blankGrounds
-    rest =
-        verdict-later (ground (ltb referenceLimit n) 1 0 ∷ []) (digestTextGrounds digest ++ capacityGrounds room records journal pool)
-        (outcome-accepted _ e)
+-- an accepted blank: the reference's length and the capacities within their limits, 32 base64url characters, and room
+pub record Blankable (room n : ℕ) (digest : List ℕ) (records journal pool : ℕ) : Type 0 where
+  pub reference : n ≤ referenceLimit
+  pub long : length digest ≡ 32
+  pub characters : every base64url digest ≡ true
+  pub records-limit : records ≤ countLimit
+  pub journal-limit : journal ≤ countLimit
+  pub pool-limit : pool ≤ poolLimit
+  pub fits : imageSize records journal pool ≤ room
 
-    capacities : verdict (capacityGrounds room records journal pool) ≡ accepted
-    capacities = verdict-later (digestTextGrounds digest) (capacityGrounds room records journal pool) rest
-
-    pub blank-digest-long : length digest ≡ 32
-    unfolding digestTextGrounds
-    blank-digest-long =
-        let v = verdict-fewer (digestTextGrounds digest) (capacityGrounds room records journal pool) rest in
-        eqb-true (length digest) 32 (not-false (eqb (length digest) 32) (none-holds (digestTextGrounds digest) v 0))
-
-    pub blank-records : records ≤ countLimit
-    blank-records = ltb-false countLimit records (none-holds (capacityGrounds room records journal pool) capacities 0)
-
-    pub blank-journal : journal ≤ countLimit
-    blank-journal = ltb-false countLimit journal (none-holds (capacityGrounds room records journal pool) capacities 1)
-
-    pub blank-room : headerSize ≤ room
-    blank-room = omega (arith, ltb-false room (imageSize records journal pool) (none-holds (capacityGrounds room records journal pool) capacities 3))
+pub blankable : (room n : ℕ) (digest : List ℕ) (records journal pool : ℕ) → verdict (blankGrounds room n digest records journal pool) ≡ accepted
+    → Blankable room n digest records journal pool
+unfolding blankGrounds digestTextGrounds
+blankable room n digest records journal pool v =
+    let one = ground (ltb referenceLimit n) 1 0 ∷ [] in
+    let seven = digestTextGrounds digest in
+    let nine = capacityGrounds room records journal pool in
+    let rest = verdict-later one (seven ++ nine) v in
+    let text = verdict-fewer seven nine rest in
+    let last = verdict-later seven nine rest in
+    let outside = ltb-false (firstOutside base64url digest) (length digest) (none-holds seven text 1) in
+    record {
+      reference = ltb-false referenceLimit n (none-holds one (verdict-fewer one (seven ++ nine) v) 0);
+      long = eqb-true (length digest) 32 (not-false _ (none-holds seven text 0));
+      characters = firstOutside-all base64url digest (omega (arith, outside, firstOutside-le base64url digest));
+      records-limit = ltb-false countLimit records (none-holds nine last 0);
+      journal-limit = ltb-false countLimit journal (none-holds nine last 1);
+      pool-limit = ltb-false poolLimit pool (none-holds nine last 2);
+      fits = ltb-false room (imageSize records journal pool) (none-holds nine last 3);
+    }

@@ -15,20 +15,19 @@ use Rattle.records.specs.Does.{Does, notFormed, journalFull}
 use Rattle.register.specs.declared.Undone.{Undone}
 use Rattle.register.specs.declared.Undone.the-variants.{Number, Refused as NotUndone}
 
--- blank, into that much room: 1, 7, 9
-unfoldable pub blankGrounds : ℕ → ℕ → List ℕ → ℕ → ℕ → ℕ → List Ground
-blankGrounds room n digest records journal pool =
-    (ground (ltb referenceLimit n) 1 0 ∷ [])
-    ++ (
-    digestTextGrounds digest
-    ++ (
+-- the capacities, and then the room: 9
+abbrev pub capacityGrounds : ℕ → ℕ → ℕ → ℕ → List Ground
+capacityGrounds room records journal pool =
     ground (ltb countLimit records) 9 0
     ∷ ground (ltb countLimit journal) 9 0
     ∷ ground (ltb poolLimit pool) 9 0
     ∷ ground (ltb room (imageSize records journal pool)) 9 (imageSize records journal pool)
     ∷ []
-    )
-    )
+
+-- blank, into that much room: 1, 7, 9
+unfoldable pub blankGrounds : ℕ → ℕ → List ℕ → ℕ → ℕ → ℕ → List Ground
+blankGrounds room n digest records journal pool =
+    (ground (ltb referenceLimit n) 1 0 ∷ []) ++ (digestTextGrounds digest ++ capacityGrounds room records journal pool)
 
 abbrev pub Blanks : List ℕ → ℕ → List ℕ → ℕ → ℕ → ℕ → Outcome → List ℕ → Type 0
 Blanks b n digest records journal pool =

@@ -1,9 +1,12 @@
 -- The tests, and the header behind them.
+use native.Mathlib.Omega.{arith}
 use mathlib.Core.Path.{refl, _∙_, sym}
 use borrow.Author.Needs.{needs}
+use Rattle.refusal.specs.Verdict.{verdict}
 use Rattle.refusal.proofs.Verdict.{outcome-accepted, outcome-refused}
 use Rattle.records.proofs.Does.{does-refused, does-accepted}
-use Rattle.register.proofs.BlankTests.{blank-digest-long, blank-records, blank-journal, blank-room}
+use Rattle.register.specs.Calls.{blankGrounds}
+use Rattle.register.proofs.BlankTests.{blankable}
 use Rattle.register.proofs.header.blank.Statement.{statement}
 use Rattle.register.proofs.header.blank.Tie as tie
 
@@ -16,7 +19,8 @@ enum-told c = search needs
 write-header-requires : tie.Need-write-header-requires
 write-header-requires c κs =
     let e = sym (c .before .enum-told .given .1) ∙ c .before .before .before .check-blank .ensures in
-    ((blank-room _ _ _ _ _ _ e, blank-digest-long _ _ _ _ _ _ e), (blank-records _ _ _ _ _ _ e, blank-journal _ _ _ _ _ _ e))
+    let k = blankable _ _ _ _ _ _ (outcome-accepted (verdict (blankGrounds _ _ _ _ _ _)) e) in
+    ((omega (arith, k .fits), k .long), (k .records-limit, k .journal-limit))
 
 enum-known-why : tie.Need-enum-known-why
 enum-known-why c = search needs
