@@ -47,10 +47,6 @@ number-numbers vs k h l =
     ∙ little-bytes 4 (getD vs k 0) l
 
 -- where records stand
-pub record-next : (k : ℕ) → recordAt (suc k) ≡ headerSize + recordSize * k
-unfolding recordAt
-record-next k = omega arith
-
 pub record-header : (i : ℕ) → headerSize ≤ recordAt i
 unfolding recordAt
 record-header i = omega arith

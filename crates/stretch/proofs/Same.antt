@@ -1,13 +1,11 @@
--- Whether two stretches are one, byte by byte, and what follows where they are.
-use Prim.Native.Nat.{ℕ, suc, _+_, _<_, _≤_}
-use native.Mathlib.Numerals.{add-one}
+-- Whether two stretches are one, and what follows where they are.
+use Prim.Native.Nat.{ℕ, suc}
 use mathlib.Core.Path.{_≡_, refl, ap}
 use mathlib.Core.Bool.{Bool, true, false, cond}
 use mathlib.Core.List.{List, [], _∷_}
 use lib.Dec.{eqb}
-use lib.ListN.{length, getD, drop, drop-of-length-le}
-use lib.Seq.{drop-cons}
-use borrow.Author.Tests.{eq-eqb, ne-eqb, eqb-true}
+use lib.ListN.{length}
+use borrow.Author.Tests.{eq-eqb, eqb-true}
 use Rattle.stretch.specs.Same.{same}
 
 pub same-refl : (a : List ℕ) → same a a ≡ true
@@ -36,17 +34,3 @@ same-lengths [] [] h = absurd (h refl)
 same-lengths [] (y ∷ b) h = refl
 same-lengths (x ∷ a) [] h = refl
 same-lengths (x ∷ a) (y ∷ b) h = rw (same-lengths a b (λ e. h (ap suc e))) (cond-same (eqb x y))
-
--- what is left of two stretches from an index on: their bytes there are equal, or differ, or there are none
-module _ (a b : List ℕ) (i : ℕ) where
-  pub same-on : i < length a → i < length b → getD a i 0 ≡ getD b i 0 → same (drop i a) (drop i b) ≡ same (drop (i + 1) a) (drop (i + 1) b)
-  unfolding same
-  same-on h g e = rw (add-one, drop-cons a i 0, drop-cons b i 0, eq-eqb _ _ e)
-
-  pub same-apart : i < length a → i < length b → (getD a i 0 ≡ getD b i 0 → ⊥) → same (drop i a) (drop i b) ≡ false
-  unfolding same
-  same-apart h g n = rw (drop-cons a i 0, drop-cons b i 0, ne-eqb _ _ n)
-
-  pub same-end : length a ≤ i → length b ≤ i → same (drop i a) (drop i b) ≡ true
-  unfolding same
-  same-end h g = rw (drop-of-length-le a {i = i} h, drop-of-length-le b {i = i} g)
