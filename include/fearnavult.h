@@ -1,12 +1,14 @@
 /*
  * Fearnavult: the calls that other software links.
  *
- * Link libfearnavult.a, which `rt staticlib fearnavult` writes to target/staticlib/. It is for
- * x86-64, allocates nothing, and calls memcpy and memset of your C library and nothing else.
+ * `./install PREFIX` puts this header into PREFIX/include and libfearnavult.a into PREFIX/lib. The
+ * library is for x86-64, allocates nothing, has no state of its own, and calls memcpy and memset of
+ * your C library and nothing else. examples/register.c is a whole program over it.
  *
  * A slice is a pointer and then its length in bytes. The pointer must not be null, even where the
  * length is 0, and that many bytes must be readable there (and writable, where it is not const)
- * for as long as the call runs. No two slices of one call may overlap.
+ * for as long as the call runs. No two slices of one call may overlap. All memory stays the
+ * caller's: no call keeps a pointer, and calls on different memory may run at one time.
  *
  * Each answer begins with two numbers:
  *   refusal  0 where the call is accepted, else the number of the ground that turned it away;
@@ -23,6 +25,12 @@
 #ifdef __cplusplus
 extern "C" {
 #endif
+
+/* The answer of a call that is accepted or refused, and tells nothing else. */
+typedef struct {
+    uint64_t refusal;
+    uint64_t value;
+} fv_outcome;
 
 /* The answer of a call that writes a text: `length` is how many bytes it wrote, 0 where refused. */
 typedef struct {
@@ -48,6 +56,52 @@ typedef struct {
  */
 fv_written fv_sequence_identifier(const uint8_t *reference, size_t reference_len,
                                   uint8_t *out, size_t out_len, uint64_t place);
+
+/*
+ * The digest of a reference that comes in parts, under way. Whoever declares one owns it, may copy it and
+ * may save its bytes; the calls below read and write the one that they are lent, which must be aligned as
+ * C aligns it. Whatever it holds, no call faults.
+ */
+typedef struct {
+    uint64_t words[8];  /* SHA-512's hash value after the whole blocks */
+    uint8_t block[128]; /* the bytes that wait for the rest of their block, the first total % 128, then zeros */
+    uint64_t total;     /* how many residues there were so far */
+} fv_running;
+
+/*
+ * Answers the digest of nothing yet. It is never refused.
+ *
+ * Finished at once, it gives the identifier of the empty reference,
+ * ga4gh:SQ.z4PhNX7vuL3xVChQ1m2AB9Yg5AULVxXc
+ */
+fv_running fv_running_begin(void);
+
+/*
+ * Goes on with one more part of the reference, which may be empty. Wherever a reference is cut, its
+ * identifier is that of the whole. `state` is written where the part is accepted, and stays as it was,
+ * every byte, where it is refused.
+ *
+ * Accepted: { 0, 0 }. Refused, in this order:
+ *   1, value 0    state->total and part_len together are over 1,000,000,000. No total is too large to be
+ *                 refused so;
+ *   4, value i    part[i] is not a residue, and no byte before it is foreign.
+ *
+ * A state just begun takes `AC` and then `GT`; between them `G-` is refused { 4, 1 } and changes nothing.
+ */
+fv_outcome fv_running_feed(fv_running *state, const uint8_t *part, size_t part_len);
+
+/*
+ * Writes the identifier of all parts together, from out[place] on, as fv_sequence_identifier does for a
+ * whole reference: 41 bytes. The state is only read, so that more parts may follow.
+ *
+ * Accepted: { 0, 0, 41 }. Refused, in this order:
+ *   1, value 0    state->total is over 1,000,000,000;
+ *   6, value 41   `out` has fewer than 41 bytes from `place` on, or `place` is past its end.
+ *
+ * After the parts `AC` and `GT` it writes
+ * ga4gh:SQ.aKF498dAxcJAqme6QYQ7EZ07-fiw8Kw2
+ */
+fv_written fv_running_finish(const fv_running *state, uint8_t *out, size_t out_len, uint64_t place);
 
 /* A normal form. Where the call is refused, all that follows `value` is 0. */
 typedef struct {
@@ -234,8 +288,8 @@ fv_allele fv_read_allele(const uint8_t *text, size_t text_len);
  * The register: alleles of one reference, each under a number, in an image that the caller lends.
  *
  * An image is a buffer of the caller's, who makes it, keeps it between calls and saves it byte for byte.
- * No call keeps a pointer to it. Numbers in it are 32 bits, unsigned, the least significant byte first,
- * and are read and written byte by byte, so it needs no alignment. C, J and P are its capacities:
+ * Numbers in it are 32 bits, unsigned, the least significant byte first, and are read and written byte by
+ * byte, so it needs no alignment. C, J and P are its capacities:
  *   at 0           the edition, 1
  *   at 4, 8, 12    C, at most 10,000; how many numbers are issued; where the records begin, 76
  *   at 16, 20, 24  J, at most 10,000; the journal count; where the journal begins, 76 + 20C
@@ -256,30 +310,24 @@ fv_allele fv_read_allele(const uint8_t *text, size_t text_len);
  * fv_blank makes this test first, so that no image, however damaged, makes it fault.
  */
 
-/* The answer of a call that is accepted or refused, and tells nothing else. */
-typedef struct {
-    uint64_t refusal;
-    uint64_t value;
-} fv_outcome;
-
 /*
- * Makes a register without numbers at the front of `image`: for a reference of so many residues that has
- * this digest (32 base64url characters, without `ga4gh:SQ.` before them), with C `records`, J `journal`
- * and P `pool`. The 76 bytes of the header are written, over whatever stood there, a register too; the
- * bytes behind them stay as they were.
+ * Makes a register without numbers at the front of `image`: for a reference of `reference_length` residues
+ * that has this digest (32 base64url characters, without `ga4gh:SQ.` before them), with C `records`, J
+ * `journal` and P `pool`. The 76 bytes of the header are written, over whatever stood there, a register
+ * too; the bytes behind them stay as they were.
  *
  * Accepted: { 0, 0 }. Refused, in this order:
- *   1, value 0    residues is over 1,000,000,000;
+ *   1, value 0    reference_length is over 1,000,000,000;
  *   7, value 32   the digest has not 32 bytes;
  *   7, value i    digest[i] is not a base64url character, and every byte before it is one;
  *   9, value 0    records or journal is over 10,000, or pool is over 10,000,000;
  *   9, value s    the image needs s bytes, 76 + 20 records + 4 journal + pool, and image_len is less.
  * No number is too large to be refused so.
  *
- * With 11 residues, the digest of `TCAGCAGCAGT`, which is `zR7HujP8jYfpROv-hBLZMHuR_5P4Zo0q`, and the
+ * With reference_length 11, the digest of `TCAGCAGCAGT`, which is `zR7HujP8jYfpROv-hBLZMHuR_5P4Zo0q`, and the
  * capacities 2, 3 and 15, the journal begins at 116 and the pool at 128, and 143 bytes are needed.
  */
-fv_outcome fv_blank(uint8_t *image, size_t image_len, uint64_t residues,
+fv_outcome fv_blank(uint8_t *image, size_t image_len, uint64_t reference_length,
                     const uint8_t *digest, size_t digest_len,
                     uint64_t records, uint64_t journal, uint64_t pool);
 
@@ -338,6 +386,9 @@ fv_entered fv_entry(uint8_t *image, size_t image_len, const uint8_t *digest, siz
  *   17, value i   number, which is i, is not active;
  *   15, value J   all J journal entries are in use.
  * No `number` is too large to be refused so.
+ *
+ * With number 1 of fv_entry's example the answer is { 0, 0 }; asked again it is { 17, 1 }, and with number 2,
+ * which nobody was given, { 16, 1 }.
  */
 fv_outcome fv_withdraw(uint8_t *image, size_t image_len, uint64_t number);
 
@@ -356,6 +407,9 @@ typedef struct {
  * Accepted: { 0, 0, number }. Refused, in this order:
  *   10, value 0   the image is not well formed;
  *   18, value 0   the journal count is 0.
+ *
+ * After fv_withdraw's example the first undo is answered { 0, 0, 1 } and makes number 1 active again; the
+ * second, { 0, 0, 1 }, takes its entry back; the third is refused { 18, 0, 0 }.
  */
 fv_undone fv_undo(uint8_t *image, size_t image_len);
 
@@ -365,6 +419,8 @@ fv_undone fv_undo(uint8_t *image, size_t image_len);
  *
  * Accepted: { 0, 0 }. Refused:
  *   10, value 0   the image is not well formed.
+ *
+ * After fv_entry's example the answer is { 0, 0 }. Number 1 stays active, and an undo is refused { 18, 0, 0 }.
  */
 fv_outcome fv_seal(uint8_t *image, size_t image_len);
 

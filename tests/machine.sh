@@ -33,6 +33,20 @@ execute() {
     ${emulator:+"$emulator"} "$loader" --library-path "$lib" "$@"
 }
 
+# build PROGRAM SOURCE: a C program over the library that is installed under $prefix. On x86-64 the machine's
+# own compiler builds it, as a laboratory would; elsewhere the kit's does, with what tests/libc declares. started
+# is then the words that start it.
+build() {
+    if [ "$(uname -m)" = x86_64 ]; then
+        cc -std=c11 -O2 -Wall -Wextra -Werror -I"$prefix/include" -o "$1" "$2" "$prefix/lib/libfearnavult.a"
+        started=$1
+    else
+        compile "$2" "$1.o" -O2 -Itests/libc
+        link "$1" "$1.o" "$prefix/lib/libfearnavult.a"
+        started="$emulator $loader --library-path $lib $1"
+    fi
+}
+
 # Proves the C library and sets archive to its path. FV_ARCHIVE=FILE takes another archive instead,
 # to see that the tests notice a wrong one or to measure it.
 make_archive() {

@@ -8,6 +8,7 @@ pub use block::absorb;
 pub use constants::initial_hash;
 
 // A hash value of eight words; also a round's eight working variables.
+#[repr(C)]
 pub struct Hash {
     pub a: u64,
     pub b: u64,

@@ -1,4 +1,4 @@
--- Each export has one answer and leaves one content of the lent buffer.
+-- Each export has one answer and leaves one content of what was lent.
 use Prim.Native.Nat.{ℕ}
 use mathlib.Core.Path.{_≡_, _∙_, sym, ap}
 use mathlib.Core.List.{List}
@@ -9,7 +9,10 @@ use Rattle.normal.specs.Calls.{Normalises}
 use Rattle.normal.proofs.Promises.{normalises-once}
 use Rattle.reading.specs.Accepted.{ReadsLocation, ReadsAllele}
 use Rattle.reading.proofs.Promises.{reads-location-once, reads-allele-once}
-use Rattle.digest.specs.Calls.{Identifies}
+use Rattle.sha512.specs.declared.Running.{Running}
+use Rattle.digest.specs.Calls.{Identifies, Finishes}
+use Rattle.running.specs.Calls.{Feeds}
+use Rattle.running.proofs.Promises.{feeds-once}
 use Rattle.identify.specs.Calls.{Says, SaysLocation, IdentifiesLocation, SaysAllele, IdentifiesAllele}
 use Rattle.entering.specs.Calls.{Enters}
 use Rattle.register.specs.Calls.{Blanks, Withdraws, Undoes, Seals}
@@ -28,16 +31,29 @@ use Rattle.flat.specs.Flat.{flatWritten, flatForm, flatLocation, flatAllele, fl
 flat-once : {A B : Type 0} (flatten : A → B) (P Q : A → Type 0) (a₁ a₂ : B) (p : Flattened flatten P a₁) (q : Flattened flatten Q a₂) → p .below ≡ q .below → a₁ ≡ a₂
 flat-once flatten P Q a₁ a₂ p q e = p .flat ∙ ap flatten e ∙ sym (q .flat)
 
+-- a call that has one answer and leaves one content
+flat-left-once : {A B L : Type 0} (flatten : A → B) (P : L → A → Type 0) (a₁ a₂ : B) (l₁ l₂ : L)
+    → ((x y : A) → P l₁ x → P l₂ y → (x ≡ y) × (l₁ ≡ l₂)) → Flattened flatten (P l₁) a₁ → Flattened flatten (P l₂) a₂ → (a₁ ≡ a₂) × (l₁ ≡ l₂)
+flat-left-once flatten P a₁ a₂ l₁ l₂ once p q =
+    let same = once (p .below) (q .below) (p .promised) (q .promised) in
+    (flat-once flatten (P l₁) (P l₂) a₁ a₂ p q (same .0), same .1)
+
+pub flat-feeds-once : (state : Running) (part : List ℕ) (a₁ a₂ : FvOutcome) (s₁ s₂ : Running)
+    → Flattened flatOutcome (λ a. Feeds state part a s₁) a₁ → Flattened flatOutcome (λ a. Feeds state part a s₂) a₂ → (a₁ ≡ a₂) × (s₁ ≡ s₂)
+flat-feeds-once state part a₁ a₂ s₁ s₂ = flat-left-once flatOutcome (λ s a. Feeds state part a s) a₁ a₂ s₁ s₂ (λ x y. feeds-once state part x y s₁ s₂)
+
 module _ (out : List ℕ) (place : ℕ) (a₁ a₂ : FvWritten) (l₁ l₂ : List ℕ) where
   flat-writes-once : (v : Verdict) (text : List ℕ)
       → Flattened flatWritten (λ w. Writes v text out place w l₁) a₁ → Flattened flatWritten (λ w. Writes v text out place w l₂) a₂ → (a₁ ≡ a₂) × (l₁ ≡ l₂)
-  flat-writes-once v text p q =
-      let same = writes-once v text out place (p .below) (q .below) l₁ l₂ (p .promised) (q .promised) in
-      (flat-once _ _ _ _ _ p q (same .0), same .1)
+  flat-writes-once v text = flat-left-once flatWritten (λ l w. Writes v text out place w l) a₁ a₂ l₁ l₂ (λ x y. writes-once v text out place x y l₁ l₂)
 
   pub flat-identifies-once : (reference : List ℕ)
       → Flattened flatWritten (λ w. Identifies reference out place w l₁) a₁ → Flattened flatWritten (λ w. Identifies reference out place w l₂) a₂ → (a₁ ≡ a₂) × (l₁ ≡ l₂)
   flat-identifies-once reference = flat-writes-once _ _
+
+  pub flat-finishes-once : (state : Running)
+      → Flattened flatWritten (λ w. Finishes state out place w l₁) a₁ → Flattened flatWritten (λ w. Finishes state out place w l₂) a₂ → (a₁ ≡ a₂) × (l₁ ≡ l₂)
+  flat-finishes-once state = flat-writes-once _ _
 
   module _ (residues start end : ℕ) (digest : List ℕ) where
     pub flat-says-location-once :
@@ -63,9 +79,8 @@ module _ (out : List ℕ) (place : ℕ) (a₁ a₂ : FvWritten) (l₁ l₂ : Lis
 
 pub flat-normalises-once : (r : List ℕ) (start end : ℕ) (x out : List ℕ) (place : ℕ) (a₁ a₂ : FvForm) (l₁ l₂ : List ℕ)
     → Flattened flatForm (λ a. Normalises r start end x out place a l₁) a₁ → Flattened flatForm (λ a. Normalises r start end x out place a l₂) a₂ → (a₁ ≡ a₂) × (l₁ ≡ l₂)
-flat-normalises-once r start end x out place a₁ a₂ l₁ l₂ p q =
-    let same = normalises-once r start end x out place (p .below) (q .below) l₁ l₂ (p .promised) (q .promised) in
-    (flat-once _ _ _ _ _ p q (same .0), same .1)
+flat-normalises-once r start end x out place a₁ a₂ l₁ l₂ =
+    flat-left-once flatForm (λ l a. Normalises r start end x out place a l) a₁ a₂ l₁ l₂ (λ u w. normalises-once r start end x out place u w l₁ l₂)
 
 module _ (text : List ℕ) where
   pub flat-reads-location-once : (a₁ a₂ : FvLocation) → Flattened flatLocation (ReadsLocation text) a₁ → Flattened flatLocation (ReadsLocation text) a₂ → a₁ ≡ a₂
@@ -73,13 +88,6 @@ module _ (text : List ℕ) where
 
   pub flat-reads-allele-once : (a₁ a₂ : FvAllele) → Flattened flatAllele (ReadsAllele text) a₁ → Flattened flatAllele (ReadsAllele text) a₂ → a₁ ≡ a₂
   flat-reads-allele-once a₁ a₂ p q = flat-once _ _ _ _ _ p q (reads-allele-once text _ _ (p .promised) (q .promised))
-
--- a call that has one answer and leaves one content
-flat-left-once : {A B : Type 0} (flatten : A → B) (P : List ℕ → A → Type 0) (a₁ a₂ : B) (l₁ l₂ : List ℕ)
-    → ((x y : A) → P l₁ x → P l₂ y → (x ≡ y) × (l₁ ≡ l₂)) → Flattened flatten (P l₁) a₁ → Flattened flatten (P l₂) a₂ → (a₁ ≡ a₂) × (l₁ ≡ l₂)
-flat-left-once flatten P a₁ a₂ l₁ l₂ once p q =
-    let same = once (p .below) (q .below) (p .promised) (q .promised) in
-    (flat-once flatten (P l₁) (P l₂) a₁ a₂ p q (same .0), same .1)
 
 module _ (b l₁ l₂ : List ℕ) where
   module _ (a₁ a₂ : FvOutcome) where

@@ -16,9 +16,13 @@ use flat::flat_location;
 use flat::flat_outcome;
 use flat::flat_undone;
 use flat::flat_written;
+use sha512::Running;
+ghost use mathlib.Core.Path.{_≡_};
 ghost use Rattle.normal.specs.Calls.{Normalises};
 ghost use Rattle.reading.specs.Accepted.{ReadsLocation, ReadsAllele};
-ghost use Rattle.digest.specs.Calls.{Identifies};
+ghost use Rattle.sha512.specs.Parts.{begun};
+ghost use Rattle.digest.specs.Calls.{Identifies, Finishes};
+ghost use Rattle.running.specs.Calls.{Feeds};
 ghost use Rattle.identify.specs.Calls.{SaysLocation, IdentifiesLocation, SaysAllele, IdentifiesAllele};
 ghost use Rattle.entering.specs.Calls.{Enters};
 ghost use Rattle.register.specs.Calls.{Blanks, Withdraws, Undoes, Seals};
@@ -30,6 +34,30 @@ pub extern "C" fn fv_sequence_identifier(reference: &[u8], out: &mut [u8], place
     ensures { λ r. ⌜ Flattened flatWritten (λ w. Identifies (now (reference .entry)) (now (out .entry)) place w (now (out .exit))) r ⌝ }
 {
     flat_written(digest::sequence_identifier(reference, out, place))
+}
+
+// As `running::begin`.
+#[no_mangle]
+pub extern "C" fn fv_running_begin() -> Running
+    ensures { λ r. ⌜ r ≡ begun ⌝ }
+{
+    running::begin()
+}
+
+// As `running::feed`.
+#[no_mangle]
+pub extern "C" fn fv_running_feed(state: &mut Running, part: &[u8]) -> FvOutcome
+    ensures { λ r. ⌜ Flattened flatOutcome (λ a. Feeds (now (state .entry)) (now (part .entry)) a (now (state .exit))) r ⌝ }
+{
+    flat_outcome(running::feed(state, part))
+}
+
+// As `running::finish`.
+#[no_mangle]
+pub extern "C" fn fv_running_finish(state: &Running, out: &mut [u8], place: u64) -> FvWritten
+    ensures { λ r. ⌜ Flattened flatWritten (λ w. Finishes (now (state .entry)) (now (out .entry)) place w (now (out .exit))) r ⌝ }
+{
+    flat_written(running::finish(state, out, place))
 }
 
 // As `normal::normal_form`.

@@ -12,6 +12,7 @@ pub use parts::feed;
 
 // A digest under way: the hash value after the whole blocks, the bytes that wait for the next block
 // (the first total % 128 of it, then zeros), and the count of all bytes, modulo 2 to the 64th.
+#[repr(C)]
 pub struct Running {
     pub hash: compression::Hash,
     pub block: [u8; 128],

@@ -1,0 +1,26 @@
+// The running digest in document 01's form: one small state, lent, and brought forward by each part.
+//
+// Crate `digest` has the same calls by value, which these wrap; whatever stands inside the project
+// uses those.
+use refusal::Outcome;
+use refusal::Written;
+use sha512::Running;
+ghost use Rattle.digest.specs.Calls.{Finishes};
+ghost use Rattle.running.specs.Calls.{Feeds};
+pub use digest::begin;
+
+// Goes on with one more part. A refused part leaves the state as it was.
+pub fn feed(state: &mut Running, part: &[u8]) -> Outcome
+    ensures { λ r. ⌜ Feeds (now (state .entry)) (now (part .entry)) r (now (state .exit)) ⌝ }
+{
+    let fed = digest::feed(*state, part);
+    *state = fed.state;
+    fed.outcome
+}
+
+// Writes the identifier of all the parts into `out` from `place` on. The state is only read.
+pub fn finish(state: &Running, out: &mut [u8], place: u64) -> Written
+    ensures { λ r. ⌜ Finishes (now (state .entry)) (now (out .entry)) place r (now (out .exit)) ⌝ }
+{
+    digest::finish(*state, out, place)
+}

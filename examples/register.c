@@ -1,0 +1,83 @@
+/*
+ * A register from blank to seal. CAG comes into a repeat of CAG, written down in two ways: it is one
+ * molecule, so it has one number and one identifier.
+ *
+ *     ./install PREFIX
+ *     cc -IPREFIX/include -o register examples/register.c PREFIX/lib/libfearnavult.a
+ */
+#include <stdint.h>
+#include <stdio.h>
+#include <string.h>
+
+#include "fearnavult.h"
+
+enum { DIGEST = 32, IDENTIFIER = 41 };
+
+/* Room for 2 records, 3 journal entries and 15 letters. */
+enum { RECORDS = 2, JOURNAL = 3, POOL = 15, IMAGE = 76 + 20 * RECORDS + 4 * JOURNAL + POOL };
+
+static const char reference[] = "TCAGCAGCAGT";
+enum { REFERENCE = sizeof reference - 1 };
+
+static const uint8_t *bytes(const char *text) {
+    return (const uint8_t *)text;
+}
+
+/* Says whether a call was refused. */
+static int refused(const char *call, uint64_t refusal, uint64_t value) {
+    printf("%s: ", call);
+    if (refusal != 0)
+        printf("refused %d, %d\n", (int)refusal, (int)value);
+    return refusal != 0;
+}
+
+static void tell(const char *call, fv_outcome o) {
+    if (!refused(call, o.refusal, o.value))
+        printf("done\n");
+}
+
+/* A long reference comes in parts; this one needn't. */
+static fv_written identify_reference(uint8_t *identifier) {
+    fv_running state = fv_running_begin();
+    fv_running_feed(&state, bytes(reference), 5);
+    fv_running_feed(&state, bytes(reference + 5), REFERENCE - 5);
+    return fv_running_finish(&state, identifier, IDENTIFIER, 0);
+}
+
+static void enter(uint8_t *image, const uint8_t *digest, uint64_t start, uint64_t end, const char *replacement) {
+    static const char *const found[] = {"", "new", "again", "known"};
+    uint8_t identifier[IDENTIFIER];
+    fv_entered e = fv_entry(image, IMAGE, digest, DIGEST, bytes(reference), REFERENCE, start, end,
+                            bytes(replacement), strlen(replacement));
+    printf("%d %d %s, ", (int)start, (int)end, replacement);
+    if (refused("enter", e.refusal, e.value))
+        return;
+    fv_allele_identifier(bytes(reference), REFERENCE, start, end, bytes(replacement), strlen(replacement),
+                         digest, DIGEST, identifier, IDENTIFIER, 0);
+    printf("%s, number %d, %.*s\n", found[e.answer], (int)e.number, IDENTIFIER, (const char *)identifier);
+}
+
+static void undo(uint8_t *image) {
+    fv_undone u = fv_undo(image, IMAGE);
+    if (!refused("undo", u.refusal, u.value))
+        printf("number %d\n", (int)u.number);
+}
+
+int main(void) {
+    uint8_t image[IMAGE], identifier[IDENTIFIER];
+    const uint8_t *digest = identifier + IDENTIFIER - DIGEST;
+    fv_written w = identify_reference(identifier);
+    if (refused(reference, w.refusal, w.value))
+        return 1;
+    printf("%.*s\n", IDENTIFIER, (const char *)identifier);
+
+    tell("blank", fv_blank(image, IMAGE, REFERENCE, digest, DIGEST, RECORDS, JOURNAL, POOL));
+    enter(image, digest, 4, 4, "CAG");
+    enter(image, digest, 1, 2, "CAGC");
+    enter(image, digest, 1, 4, "CAG");
+    tell("withdraw 1", fv_withdraw(image, IMAGE, 1));
+    undo(image);
+    tell("seal", fv_seal(image, IMAGE));
+    undo(image);
+    return 0;
+}

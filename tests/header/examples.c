@@ -1,0 +1,130 @@
+/*
+ * The examples of include/fearnavult.h, each as it is worded there. Ends with status 1 at the first that
+ * is not so.
+ */
+#include <stdint.h>
+#include <stdio.h>
+#include <stdlib.h>
+#include <string.h>
+
+#include "fearnavult.h"
+
+#define TEXT(text) (const uint8_t *)(text), sizeof(text) - 1
+#define REPEAT "TCAGCAGCAGT"
+#define DIGEST "zR7HujP8jYfpROv-hBLZMHuR_5P4Zo0q"
+#define LOCATION "{\"interval\":{\"end\":10,\"start\":1,\"type\":\"SimpleInterval\"}," \
+                 "\"sequence_id\":\"" DIGEST "\",\"type\":\"SequenceLocation\"}"
+#define ALLELE "{\"location\":\"NERH7ClkNiblyxw1x18NLM8Y7sEdWeN7\"," \
+               "\"state\":{\"sequence\":\"CAGCAGCAGCAG\",\"type\":\"SequenceState\"},\"type\":\"Allele\"}"
+
+static uint8_t out[200];
+static int met;
+
+static void expect(const char *call, int holds) {
+    if (!holds) {
+        printf("header: FAILED: %s is not answered as the header's example says\n", call);
+        exit(1);
+    }
+    met++;
+}
+
+/* Whether a call was accepted and wrote this text and no byte behind it. */
+static int wrote(fv_written w, const char *text) {
+    size_t length = strlen(text);
+    int is = w.refusal == 0 && w.value == 0 && w.length == length && memcmp(out, text, length) == 0 && out[length] == 0;
+    memset(out, 0, sizeof out);
+    return is;
+}
+
+static int answered(fv_outcome o, uint64_t refusal, uint64_t value) {
+    return o.refusal == refusal && o.value == value;
+}
+
+static void sequences(void) {
+    fv_running state = fv_running_begin();
+    expect("fv_sequence_identifier", wrote(fv_sequence_identifier(TEXT("ACGT"), out, sizeof out, 0),
+                                           "ga4gh:SQ.aKF498dAxcJAqme6QYQ7EZ07-fiw8Kw2"));
+    expect("fv_running_begin", wrote(fv_running_finish(&state, out, sizeof out, 0),
+                                     "ga4gh:SQ.z4PhNX7vuL3xVChQ1m2AB9Yg5AULVxXc"));
+    expect("fv_running_feed", answered(fv_running_feed(&state, TEXT("AC")), 0, 0));
+    expect("fv_running_feed", answered(fv_running_feed(&state, TEXT("G-")), 4, 1));
+    expect("fv_running_feed", answered(fv_running_feed(&state, TEXT("GT")), 0, 0));
+    expect("fv_running_finish", wrote(fv_running_finish(&state, out, sizeof out, 0),
+                                      "ga4gh:SQ.aKF498dAxcJAqme6QYQ7EZ07-fiw8Kw2"));
+}
+
+static void forms(void) {
+    fv_form f = fv_normal_form(TEXT(REPEAT), 4, 4, TEXT("CAG"), out, sizeof out, 0);
+    expect("fv_normal_form", f.refusal == 0 && f.value == 0 && f.kind == 2 && f.start == 1 && f.end == 10
+                             && f.length == 12 && memcmp(out, "CAGCAGCAGCAG", 13) == 0);
+    memset(out, 0, sizeof out);
+}
+
+static void texts_written(void) {
+    expect("fv_location_text", wrote(fv_location_text(11, 1, 10, TEXT(DIGEST), out, sizeof out, 0), LOCATION)
+                               && strlen(LOCATION) == 132);
+    expect("fv_location_identifier", wrote(fv_location_identifier(11, 1, 10, TEXT(DIGEST), out, sizeof out, 0),
+                                           "ga4gh:VSL.NERH7ClkNiblyxw1x18NLM8Y7sEdWeN7"));
+    expect("fv_allele_text", wrote(fv_allele_text(TEXT(REPEAT), 4, 4, TEXT("CAG"), TEXT(DIGEST), out, sizeof out, 0),
+                                   ALLELE) && strlen(ALLELE) == 122);
+    expect("fv_allele_identifier", wrote(fv_allele_identifier(TEXT(REPEAT), 4, 4, TEXT("CAG"), TEXT(DIGEST),
+                                                              out, sizeof out, 0),
+                                         "ga4gh:VA.AI9QWkPg6MybxSaPDP38hunMAsLzNpmS"));
+}
+
+static int location_is(fv_location l, uint64_t refusal, uint64_t value, uint64_t start, uint64_t end, uint64_t digest) {
+    return l.refusal == refusal && l.value == value && l.start == start && l.end == end && l.digest == digest;
+}
+
+static int allele_is(fv_allele a, uint64_t refusal, uint64_t value, uint64_t location, uint64_t sequence, uint64_t length) {
+    return a.refusal == refusal && a.value == value && a.location == location && a.sequence == sequence
+           && a.length == length;
+}
+
+static void texts_read(void) {
+    expect("fv_read_location", location_is(fv_read_location(TEXT(LOCATION)), 0, 0, 1, 10, 72));
+    expect("fv_read_location", location_is(fv_read_location(
+        TEXT("{\"interval\":{\"end\":10,\"start\":11,\"type\":\"SimpleInterval\"},"
+             "\"sequence_id\":\"" DIGEST "\",\"type\":\"SequenceLocation\"}")), 8, 31, 0, 0, 0));
+    expect("fv_read_allele", allele_is(fv_read_allele(TEXT(ALLELE)), 0, 0, 13, 68, 12));
+    expect("fv_read_allele", allele_is(fv_read_allele((const uint8_t *)ALLELE, 121), 8, 121, 0, 0, 0));
+}
+
+static int entered(uint8_t *image, uint64_t start, uint64_t end, const char *replacement, uint64_t answer) {
+    fv_entered e = fv_entry(image, 143, TEXT(DIGEST), TEXT(REPEAT), start, end,
+                            (const uint8_t *)replacement, strlen(replacement));
+    return e.refusal == 0 && e.value == 0 && e.answer == answer && e.number == 1;
+}
+
+static int undone(uint8_t *image, uint64_t refusal, uint64_t value, uint64_t number) {
+    fv_undone u = fv_undo(image, 143);
+    return u.refusal == refusal && u.value == value && u.number == number;
+}
+
+static void registers(void) {
+    uint8_t image[143], sealed[143];
+    expect("fv_blank", answered(fv_blank(image, 142, 11, TEXT(DIGEST), 2, 3, 15), 9, 143));
+    expect("fv_blank", answered(fv_blank(image, 143, 11, TEXT(DIGEST), 2, 3, 15), 0, 0)
+                       && image[24] == 116 && image[36] == 128);
+    expect("fv_entry", entered(image, 4, 4, "CAG", 1));
+    expect("fv_entry", entered(image, 1, 2, "CAGC", 3));
+    memcpy(sealed, image, sizeof image);
+    expect("fv_withdraw", answered(fv_withdraw(image, 143, 1), 0, 0));
+    expect("fv_withdraw", answered(fv_withdraw(image, 143, 1), 17, 1));
+    expect("fv_withdraw", answered(fv_withdraw(image, 143, 2), 16, 1));
+    expect("fv_undo", undone(image, 0, 0, 1) && entered(image, 4, 4, "CAG", 3));
+    expect("fv_undo", undone(image, 0, 0, 1));
+    expect("fv_undo", undone(image, 18, 0, 0));
+    expect("fv_seal", answered(fv_seal(sealed, 143), 0, 0));
+    expect("fv_seal", undone(sealed, 18, 0, 0) && entered(sealed, 4, 4, "CAG", 3));
+}
+
+int main(void) {
+    sequences();
+    forms();
+    texts_written();
+    texts_read();
+    registers();
+    printf("header: %d examples are answered as it says\n", met);
+    return 0;
+}
