@@ -1,5 +1,5 @@
 /*
- * Times ours and the plain C in one run, and prints tables.
+ * Times ours and the plain C in one run, and prints one table of ratios.
  *
  * The two arguments are what bench/run has measured, 0 for what it has not: the bytes a second of
  * OpenSSL's SHA-512, and the allele identifiers a second of the second program.
@@ -14,6 +14,7 @@ int printf(const char *format, ...);
 double atof(const char *text);
 void *memcpy(void *to, const void *from, size_t count);
 void *memset(void *at, int byte, size_t count);
+int memcmp(const void *one, const void *other, size_t count);
 
 enum { MEGABYTES = 64, BYTES = MEGABYTES << 20 };
 enum { SHORT = 10 * 1000, LONG = 10 * 1000 * 1000, FORMS = 100 * 1000 };
@@ -27,10 +28,21 @@ static const uint8_t nothing[1];
 static const uint8_t repeat[] = "TCAGCAGCAGT", repeat_digest[] = "zR7HujP8jYfpROv-hBLZMHuR_5P4Zo0q";
 static size_t found;
 
-/* The identifier of 64 MB, and its two halves in plain C. */
+/* The identifier of 64 MB, whole and in parts, and its two halves in plain C. */
 static void identifier(void) { hold(fv_sequence_identifier(twice, BYTES, out, 41, 0).length == 41); }
+static void in_parts_of(size_t length) {
+    fv_running state = fv_running_begin();
+    for (size_t at = 0; at < BYTES; at += length) {
+        size_t left = BYTES - at;
+        hold(fv_running_feed(&state, twice + at, left < length ? left : length).refusal == 0);
+    }
+    hold(fv_running_finish(&state, out, 41, 0).length == 41);
+}
+static void in_long_parts(void) { in_parts_of(1000 * 1000); }
+static void in_short_parts(void) { in_parts_of(1000); }
 static void plain_digest(void) { plain_sha512(twice, BYTES, digest); }
 static void plain_test(void) { hold(plain_letters(twice, BYTES) == BYTES); }
+static void plain_digest_and_test(void) { plain_digest(), plain_test(); }
 
 /*
  * One of two equal halves of 64 MB goes, so that the change rolls over the whole other one: to the
@@ -51,6 +63,7 @@ static void roll_left(void) { second_half_goes('a', 5); }
 static void roll_right_and_test(void) { first_half_goes('A', 6); }
 static void roll_left_and_test(void) { second_half_goes('A', 6); }
 static void plain_prefix(void) { found = plain_common_prefix(twice, twice + BYTES, BYTES); }
+static void compare_memory(void) { hold(memcmp(twice, twice + BYTES, BYTES) == 0); }
 static void plain_suffix(void) { found = plain_common_suffix(twice, twice + BYTES, BYTES); }
 static void plain_prefix_and_test(void) { plain_prefix(), plain_test(); }
 static void plain_suffix_and_test(void) { plain_suffix(), plain_test(); }
@@ -95,10 +108,60 @@ static void long_allele_identifier(void) {
     hold(fv_allele_identifier(same, LONG, LONG / 2, LONG / 2, one, 1, repeat_digest, 32, out, 41, 0).length == 41);
 }
 static void plain_long_digest(void) { plain_sha512(same, LONG, digest); }
-static void plain_long_roll(void) {
+static void plain_long_all(void) {
     found = plain_common_suffix(same, same + 1, LONG / 2) + plain_common_prefix(same, same + 1, LONG / 2);
+    hold(plain_letters(same, LONG) == LONG);
+    plain_long_digest();
 }
-static void plain_long_test(void) { hold(plain_letters(same, LONG) == LONG); }
+
+static void sequence_lines(double openssl) {
+    row whole[] = {{"`fv_sequence_identifier`", identifier, 0},
+                   {"plain C SHA-512", plain_digest, 0},
+                   {"plain C SHA-512 and letter test", plain_digest_and_test, 0}};
+    ours_first("identifier of 64 MB", whole, COUNT(whole));
+    row other = {"OpenSSL SHA-512", 0, openssl > 0 ? BYTES / openssl * 1e9 : 0};
+    if (openssl > 0) line("identifier of 64 MB", &whole[0], &other);
+    row parts[] = {{"`fv_sequence_identifier`", identifier, 0},
+                   {"`fv_running_feed`, parts of 1,000,000", in_long_parts, 0},
+                   {"`fv_running_feed`, parts of 1,000", in_short_parts, 0}};
+    ours_last("identifier of 64 MB", parts, COUNT(parts));
+}
+
+static void roll_lines(void) {
+    row right[] = {{"`fv_normal_form`, refused under 5", roll_right, 0},
+                   {"plain C common prefix", plain_prefix, 0},
+                   {"`memcmp`", compare_memory, 0}};
+    ours_first("roll to the right over 64 MB", right, COUNT(right));
+    row left[] = {{"`fv_normal_form`, refused under 5", roll_left, 0}, {"plain C common suffix", plain_suffix, 0}};
+    ours_first("roll to the left over 64 MB", left, COUNT(left));
+    row right_and_test[] = {{"`fv_normal_form`, refused under 6", roll_right_and_test, 0},
+                            {"plain C common prefix and letter test", plain_prefix_and_test, 0}};
+    ours_first("roll to the right over 64 MB, and letters", right_and_test, COUNT(right_and_test));
+    row left_and_test[] = {{"`fv_normal_form`, refused under 6", roll_left_and_test, 0},
+                           {"plain C common suffix and letter test", plain_suffix_and_test, 0}};
+    ours_first("roll to the left over 64 MB, and letters", left_and_test, COUNT(left_and_test));
+}
+
+static void form_lines(void) {
+    row references[] = {{"on a reference of 10 thousand", forms_on_short, 0},
+                        {"on a reference of 10 million", forms_on_long, 0}};
+    ours_last("100 thousand normal forms", references, COUNT(references));
+    row lengths[] = {{"of 1,000 residues each", rolls_of_1000, 0},
+                     {"of 10,000 residues each", rolls_of_10000, 0},
+                     {"of 100,000 residues each", rolls_of_100000, 0}};
+    ours_last("rolls over 20 million residues in all", lengths, COUNT(lengths));
+}
+
+static void allele_lines(double second) {
+    row alleles[] = {{"`fv_allele_identifier`", allele_identifiers, 0}};
+    measure(alleles, COUNT(alleles));
+    row other = {"the second program", 0, second > 0 ? IDENTIFIERS / second * 1e9 : 0};
+    if (second > 0) line("30 thousand allele identifiers", &alleles[0], &other);
+    row long_allele[] = {{"`fv_allele_identifier`", long_allele_identifier, 0},
+                         {"plain C SHA-512", plain_long_digest, 0},
+                         {"plain C SHA-512, roll and letter test", plain_long_all, 0}};
+    ours_first("an allele of 10 million letters", long_allele, COUNT(long_allele));
+}
 
 int main(int count, char **words) {
     double openssl = count > 1 ? atof(words[1]) : 0, second = count > 2 ? atof(words[2]) : 0;
@@ -110,49 +173,11 @@ int main(int count, char **words) {
     memcpy(long_reference + (LONG - SHORT) / 2, short_reference, SHORT);
     memset(same, 'A', sizeof same);
 
-    printf("best of %d\n", TURNS);
-    row identifiers[] = {{"fv_sequence_identifier", identifier, 0},
-                         {"plain C SHA-512", plain_digest, 0},
-                         {"plain C letter test", plain_test, 0}};
-    TABLE("identifier of 64 MB", identifiers);
-    double ours = identifiers[0].best;
-    show("plain C SHA-512 and letter test", identifiers[1].best + identifiers[2].best, ours);
-    if (openssl > 0) show("OpenSSL SHA-512", BYTES / openssl * 1e9, ours);
-
-    row right[] = {{"fv_normal_form, refused under 5", roll_right, 0}, {"plain C common prefix", plain_prefix, 0}};
-    TABLE("roll to the right over 64 MB", right);
-    row left[] = {{"fv_normal_form, refused under 5", roll_left, 0}, {"plain C common suffix", plain_suffix, 0}};
-    TABLE("roll to the left over 64 MB", left);
-    row right_and_test[] = {{"fv_normal_form, refused under 6", roll_right_and_test, 0},
-                            {"plain C common prefix and letter test", plain_prefix_and_test, 0}};
-    TABLE("roll to the right over 64 MB, and letters", right_and_test);
-    row left_and_test[] = {{"fv_normal_form, refused under 6", roll_left_and_test, 0},
-                           {"plain C common suffix and letter test", plain_suffix_and_test, 0}};
-    TABLE("roll to the left over 64 MB, and letters", left_and_test);
-
-    row references[] = {{"on a reference of 10 thousand", forms_on_short, 0},
-                        {"on a reference of 10 million", forms_on_long, 0}};
-    TABLE("100 thousand normal forms", references);
-    row lengths[] = {{"of 1,000 residues each", rolls_of_1000, 0},
-                     {"of 10,000 residues each", rolls_of_10000, 0},
-                     {"of 100,000 residues each", rolls_of_100000, 0}};
-    TABLE("rolls, 20 million residues in all", lengths);
-
-    row alleles[] = {{"fv_allele_identifier", allele_identifiers, 0}};
-    TABLE("30 thousand allele identifiers", alleles);
-    double each = alleles[0].best / IDENTIFIERS;
-    if (second > 0) show("the second program, in Python", IDENTIFIERS / second * 1e9, alleles[0].best);
-    printf("%-46s %9.0f a second\n", "fv_allele_identifier", 1e9 / each);
-    if (second > 0) printf("%-46s %9.0f a second\n", "the second program, in Python", second);
-
-    row long_allele[] = {{"fv_allele_identifier", long_allele_identifier, 0},
-                         {"plain C SHA-512", plain_long_digest, 0},
-                         {"plain C roll to both sides", plain_long_roll, 0},
-                         {"plain C letter test", plain_long_test, 0}};
-    TABLE("allele identifier, 10 million letters", long_allele);
-    show("plain C SHA-512, roll and letter test",
-         long_allele[1].best + long_allele[2].best + long_allele[3].best, long_allele[0].best);
-
-    register_tables();
+    head();
+    sequence_lines(openssl);
+    roll_lines();
+    form_lines();
+    allele_lines(second);
+    register_lines();
     return 0;
 }

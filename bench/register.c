@@ -113,25 +113,27 @@ static void withdraw_last(void) {
     }
 }
 
-static void calls_on(const char *title) {
+static void calls_on(const char *what) {
     row rows[] = {{"plain C read of the image", read_image, 0},
                   {"plain C letter test of the pool", test_letters, 0},
-                  {"fv_seal, nothing to seal", test_image, 0},
-                  {"fv_entry, known", enter_known, 0},
-                  {"fv_entry, again", enter_again, 0},
-                  {"fv_entry, new", enter_new, 0},
-                  {"fv_withdraw", withdraw_last, 0}};
-    TABLE(title, rows);
+                  {"`fv_seal`, nothing to seal", test_image, 0},
+                  {"`fv_entry`, known", enter_known, 0},
+                  {"`fv_entry`, again", enter_again, 0},
+                  {"`fv_entry`, new", enter_new, 0},
+                  {"`fv_withdraw`", withdraw_last, 0}};
+    measure(rows, COUNT(rows));
+    for (int i = 2; i < COUNT(rows); i++) line(what, &rows[i], &rows[0]);
+    line(what, &rows[2], &rows[1]);
 }
 
-void register_tables(void) {
+void register_lines(void) {
     memset(reference, 'T', sizeof reference);
     lay_apart(10);
-    calls_on("10 numbers, 10 MB of letters, 10 calls");
+    calls_on("10 numbers, 10 MB of letters");
     lay_apart(1000);
-    calls_on("1,000 numbers");
+    calls_on("1,000 numbers, 10 MB of letters");
     lay_apart(10000);
-    calls_on("10,000 numbers");
+    calls_on("10,000 numbers, 10 MB of letters");
     lay_alike(10000);
-    calls_on("10,000 numbers, alike but for last letters");
+    calls_on("10,000 numbers, alike but for their last letters");
 }

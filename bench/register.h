@@ -1,2 +1,2 @@
-/* Prints the tables of the register's calls. */
-void register_tables(void);
+/* Prints the lines of the register's calls. */
+void register_lines(void);

@@ -22,11 +22,16 @@ void hold(int as_expected) {
     exit(1);
 }
 
-void show(const char *name, double took, double first) {
-    printf("%-46s %9.1f ms %8.2f\n", name, took / 1e6, took / first);
+void head(void) {
+    printf("| what | ours | against | ratio |\n");
+    printf("|---|---|---|---|\n");
 }
 
-void table(const char *title, row *rows, int count) {
+void line(const char *what, const row *ours, const row *other) {
+    printf("| %s | %s | %s | %.2f |\n", what, ours->name, other->name, ours->best / other->best);
+}
+
+void measure(row *rows, int count) {
     for (int turn = 0; turn < TURNS; turn++)
         for (int i = 0; i < count; i++) {
             double began = now();
@@ -34,8 +39,16 @@ void table(const char *title, row *rows, int count) {
             double took = now() - began;
             if (turn == 0 || took < rows[i].best) rows[i].best = took;
         }
-    printf("\n%-46s %12s %8s\n", title, "time", "ratio");
-    for (int i = 0; i < count; i++) show(rows[i].name, rows[i].best, rows[0].best);
+}
+
+void ours_first(const char *what, row *rows, int count) {
+    measure(rows, count);
+    for (int i = 1; i < count; i++) line(what, &rows[0], &rows[i]);
+}
+
+void ours_last(const char *what, row *rows, int count) {
+    measure(rows, count);
+    for (int i = 1; i < count; i++) line(what, &rows[i], &rows[0]);
 }
 
 void fill(uint8_t *text, size_t length) {
