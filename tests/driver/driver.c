@@ -2,15 +2,19 @@
  * Makes the calls that it reads on standard input and writes the answers to standard output.
  *
  * A request is one byte, the call's code; then its numbers, in the order of its parameters; then its
- * slices likewise, each a length and that many bytes. Where UNTOUCHED is added to a length no bytes
- * follow: the slice, one that is only read, is that many zero bytes of memory that nothing has
- * touched, so that limits can be tried at full size. Every number and length is 64 bits, little-endian.
+ * slices likewise, each a length and that many bytes. Every number and length is 64 bits, little-endian.
+ * So that limits can be tried at full size, a slice that is only read may be said in other ways:
+ *   where UNTOUCHED is added to its length no bytes follow, and it is that many zero bytes of memory
+ *   that nothing has touched;
+ *   where REPEATED is added, the length is that of its head. How many copies of one byte come behind the
+ *   head, the length of a tail behind them, that byte, the head and the tail follow.
  *
  * An answer is the count of the numbers answered; these numbers; a harm; then each lent slice that
  * the call may write, whole. The harm is 0, or the slice (from 1) with a changed byte where the call
- * may write none: in the guards on both sides of it, or in a slice that it may only read.
+ * may write none: in the guards on both sides of it, or in a slice that it may only read. Where there is
+ * no memory for a repeated slice the call is not made, and the whole answer is NO_MEMORY for the count.
  *
- * A call is added by a row in `calls` and a case in `make`.
+ * A call is added by a row in `calls` and a case in the function that the row names.
  */
 #include <stddef.h>
 #include <stdint.h>
@@ -31,37 +35,30 @@ enum { PROT_NONE = 0, PROT_READ = 1, PROT_WRITE = 2 };
 enum { MAP_PRIVATE = 2, MAP_ANONYMOUS = 0x20, MAP_NORESERVE = 0x4000 };
 
 enum { CHUNK = 1 << 20, PAGE = 4096, GUARD = 64, ROOM = 1 << 28 };
-enum { NUMBERS = 4, SLICES = 4, ANSWERS = 6 };
+enum { NUMBERS = 4, SLICES = 4, ANSWERS = 9, PARTS = 3 };
 #define UNTOUCHED (UINT64_C(1) << 63)
+#define REPEATED (UINT64_C(1) << 62)
+#define NO_MEMORY UINT64_MAX
 
 typedef struct {
-    uint8_t *at;
+    uint8_t *at; /* null where there was no memory for it */
     size_t length;
-    size_t offset; /* of its first byte in `lent` and `kept`; 0 where untouched */
-    int untouched;
+    size_t offset; /* of its first byte in `lent` and `kept`, where it stands there */
+    uint8_t *area; /* else its own pages and one on either side of them */
+    size_t area_size;
 } slice;
 
-typedef struct {
-    char code;
-    int numbers;
-    const char *slices; /* one letter for each: r only read, w written */
-} call;
+/* A slice as an argument. */
+#define LENT(s) (s).at, (s).length
 
-static const call calls[] = {
-    {'s', 1, "rw"},   /* fv_sequence_identifier: place; reference, out */
-    {'n', 3, "rrw"},  /* fv_normal_form: start, end, place; reference, replacement, out */
-    {'L', 4, "rw"},   /* fv_location_text: reference_length, start, end, place; digest, out */
-    {'l', 4, "rw"},   /* fv_location_identifier: likewise */
-    {'A', 3, "rrrw"}, /* fv_allele_text: start, end, place; reference, replacement, digest, out */
-    {'a', 3, "rrrw"}, /* fv_allele_identifier: likewise */
-    {'R', 0, "r"},    /* fv_read_location: text */
-    {'r', 0, "r"},    /* fv_read_allele: text */
-    {'b', 4, "wr"},   /* fv_blank: reference_length, records, journal, pool; image, digest */
-    {'e', 2, "wrrr"}, /* fv_entry: start, end; image, digest, reference, replacement */
-    {'w', 1, "w"},    /* fv_withdraw: number; image */
-    {'u', 0, "w"},    /* fv_undo: image */
-    {'S', 0, "w"},    /* fv_seal: image */
-};
+static _Noreturn void stop(const char *why) {
+    size_t length = 0;
+    while (why[length] != 0) length++;
+    write(2, "driver: ", 8);
+    write(2, why, length);
+    write(2, "\n", 1);
+    _exit(2);
+}
 
 static int written(fv_written w, uint64_t *a) {
     a[0] = w.refusal, a[1] = w.value, a[2] = w.length;
@@ -73,67 +70,135 @@ static int outcome(fv_outcome o, uint64_t *a) {
     return 2;
 }
 
-/* Makes the call and answers how many numbers it left in a. */
-static int make(char code, const uint64_t *n, const slice *s, uint64_t *a) {
+/* Each of these makes a call and answers how many numbers it left in a. */
+static int make_form_or_text(char code, const uint64_t *n, const slice *s, uint64_t *a) {
     switch (code) {
     case 's':
-        return written(fv_sequence_identifier(s[0].at, s[0].length, s[1].at, s[1].length, n[0]), a);
+        return written(fv_sequence_identifier(LENT(s[0]), LENT(s[1]), n[0]), a);
     case 'n': {
-        fv_form f = fv_normal_form(s[0].at, s[0].length, n[0], n[1], s[1].at, s[1].length,
-                                   s[2].at, s[2].length, n[2]);
+        fv_form f = fv_normal_form(LENT(s[0]), n[0], n[1], LENT(s[1]), LENT(s[2]), n[2]);
         a[0] = f.refusal, a[1] = f.value, a[2] = f.kind, a[3] = f.start, a[4] = f.end, a[5] = f.length;
         return 6;
     }
     case 'L':
-        return written(fv_location_text(n[0], n[1], n[2], s[0].at, s[0].length,
-                                        s[1].at, s[1].length, n[3]), a);
+        return written(fv_location_text(n[0], n[1], n[2], LENT(s[0]), LENT(s[1]), n[3]), a);
     case 'l':
-        return written(fv_location_identifier(n[0], n[1], n[2], s[0].at, s[0].length,
-                                              s[1].at, s[1].length, n[3]), a);
+        return written(fv_location_identifier(n[0], n[1], n[2], LENT(s[0]), LENT(s[1]), n[3]), a);
     case 'A':
-        return written(fv_allele_text(s[0].at, s[0].length, n[0], n[1], s[1].at, s[1].length,
-                                      s[2].at, s[2].length, s[3].at, s[3].length, n[2]), a);
+        return written(fv_allele_text(LENT(s[0]), n[0], n[1], LENT(s[1]), LENT(s[2]), LENT(s[3]), n[2]), a);
     case 'a':
-        return written(fv_allele_identifier(s[0].at, s[0].length, n[0], n[1], s[1].at, s[1].length,
-                                            s[2].at, s[2].length, s[3].at, s[3].length, n[2]), a);
+        return written(fv_allele_identifier(LENT(s[0]), n[0], n[1], LENT(s[1]), LENT(s[2]), LENT(s[3]), n[2]), a);
+    }
+    stop("no such form or text");
+}
+
+static int make_reading(char code, const uint64_t *n, const slice *s, uint64_t *a) {
+    (void)n;
+    switch (code) {
     case 'R': {
-        fv_location l = fv_read_location(s[0].at, s[0].length);
+        fv_location l = fv_read_location(LENT(s[0]));
         a[0] = l.refusal, a[1] = l.value, a[2] = l.start, a[3] = l.end, a[4] = l.digest;
         return 5;
     }
     case 'r': {
-        fv_allele l = fv_read_allele(s[0].at, s[0].length);
+        fv_allele l = fv_read_allele(LENT(s[0]));
         a[0] = l.refusal, a[1] = l.value, a[2] = l.location, a[3] = l.sequence, a[4] = l.length;
         return 5;
     }
+    }
+    stop("no such reading");
+}
+
+static int make_register(char code, const uint64_t *n, const slice *s, uint64_t *a) {
+    switch (code) {
     case 'b':
-        return outcome(fv_blank(s[0].at, s[0].length, n[0], s[1].at, s[1].length, n[1], n[2], n[3]), a);
+        return outcome(fv_blank(LENT(s[0]), n[0], LENT(s[1]), n[1], n[2], n[3]), a);
     case 'e': {
-        fv_entered e = fv_entry(s[0].at, s[0].length, s[1].at, s[1].length, s[2].at, s[2].length,
-                                n[0], n[1], s[3].at, s[3].length);
+        fv_entered e = fv_entry(LENT(s[0]), LENT(s[1]), LENT(s[2]), n[0], n[1], LENT(s[3]));
         a[0] = e.refusal, a[1] = e.value, a[2] = e.answer, a[3] = e.number;
         return 4;
     }
     case 'w':
-        return outcome(fv_withdraw(s[0].at, s[0].length, n[0]), a);
+        return outcome(fv_withdraw(LENT(s[0]), n[0]), a);
     case 'u': {
-        fv_undone u = fv_undo(s[0].at, s[0].length);
+        fv_undone u = fv_undo(LENT(s[0]));
         a[0] = u.refusal, a[1] = u.value, a[2] = u.number;
         return 3;
     }
     case 'S':
-        return outcome(fv_seal(s[0].at, s[0].length), a);
+        return outcome(fv_seal(LENT(s[0])), a);
     }
-    return 0;
+    stop("no such call of the register");
 }
 
-static _Noreturn void stop(const char *why) {
-    size_t length = 0;
-    while (why[length] != 0) length++;
-    write(2, "driver: ", 8);
-    write(2, why, length);
-    write(2, "\n", 1);
-    _exit(2);
+_Static_assert(sizeof(fv_running) == 200, "a running digest has no gaps");
+
+/* A running digest that is lent as a request's first slice: a guard behind the start of `lent`, so aligned. */
+static fv_running *running(const slice *s) {
+    if (s->length != sizeof(fv_running) || (uintptr_t)s->at % _Alignof(fv_running) != 0) stop("no running digest");
+    return (fv_running *)s->at;
+}
+
+static void begin(fv_running *state) { *state = fv_running_begin(); }
+
+/* A reference in three parts, cut at n[0] and n[1]: what finish answers, then what feed does to each part. */
+static int in_parts(const uint64_t *n, const slice *reference, const slice *out, uint64_t *a) {
+    const uint64_t cuts[PARTS + 1] = {0, n[0], n[1], reference->length};
+    fv_running state;
+    begin(&state);
+    for (int i = 0; i < PARTS; i++) {
+        if (cuts[i] > cuts[i + 1]) stop("parts out of order");
+        outcome(fv_running_feed(&state, reference->at + cuts[i], cuts[i + 1] - cuts[i]), a + 3 + 2 * i);
+    }
+    return written(fv_running_finish(&state, LENT(*out), n[2]), a) + 2 * PARTS;
+}
+
+static int make_running(char code, const uint64_t *n, const slice *s, uint64_t *a) {
+    switch (code) {
+    case 'B':
+        begin(running(&s[0]));
+        return 0;
+    case 'f':
+        return outcome(fv_running_feed(running(&s[0]), LENT(s[1])), a);
+    case 'F':
+        return written(fv_running_finish(running(&s[0]), LENT(s[1]), n[0]), a);
+    case 'P':
+        return in_parts(n, &s[0], &s[1], a);
+    }
+    stop("no such call of the running digest");
+}
+
+typedef struct {
+    char code;
+    int numbers;
+    const char *slices; /* one letter for each: r only read, w written */
+    int (*make)(char code, const uint64_t *n, const slice *s, uint64_t *a);
+} call;
+
+static const call calls[] = {
+    {'s', 1, "rw", make_form_or_text},   /* fv_sequence_identifier: place; reference, out */
+    {'n', 3, "rrw", make_form_or_text},  /* fv_normal_form: start, end, place; reference, replacement, out */
+    {'L', 4, "rw", make_form_or_text},   /* fv_location_text: reference_length, start, end, place; digest, out */
+    {'l', 4, "rw", make_form_or_text},   /* fv_location_identifier: likewise */
+    {'A', 3, "rrrw", make_form_or_text}, /* fv_allele_text: start, end, place; reference, replacement, digest, out */
+    {'a', 3, "rrrw", make_form_or_text}, /* fv_allele_identifier: likewise */
+    {'R', 0, "r", make_reading},         /* fv_read_location: text */
+    {'r', 0, "r", make_reading},         /* fv_read_allele: text */
+    {'b', 4, "wr", make_register},       /* fv_blank: reference_length, records, journal, pool; image, digest */
+    {'e', 2, "wrrr", make_register},     /* fv_entry: start, end; image, digest, reference, replacement */
+    {'w', 1, "w", make_register},        /* fv_withdraw: number; image */
+    {'u', 0, "w", make_register},        /* fv_undo: image */
+    {'S', 0, "w", make_register},        /* fv_seal: image */
+    {'B', 0, "w", make_running},         /* fv_running_begin: state */
+    {'f', 0, "wr", make_running},        /* fv_running_feed: state, part */
+    {'F', 1, "rw", make_running},        /* fv_running_finish: place; state, out */
+    {'P', 3, "rw", make_running},        /* all three, on a reference in parts: two cuts, place; reference, out */
+};
+
+static const call *find(char code) {
+    for (size_t i = 0; i < sizeof calls / sizeof *calls; i++)
+        if (calls[i].code == code) return &calls[i];
+    stop("no such call");
 }
 
 static uint8_t input[CHUNK], output[CHUNK];
@@ -183,10 +248,10 @@ static uint64_t take_number(void) {
     return x;
 }
 
-static void *map(size_t count, int access) {
-    void *at = mmap(0, count, access, MAP_PRIVATE | MAP_ANONYMOUS | MAP_NORESERVE, -1, 0);
-    if (at == (void *)-1) stop("cannot map memory");
-    return at;
+/* Memory of zero bytes, or null. */
+static uint8_t *map(size_t count, int access, int flags) {
+    void *at = mmap(0, count, access, MAP_PRIVATE | MAP_ANONYMOUS | flags, -1, 0);
+    return at == (void *)-1 ? 0 : at;
 }
 
 /* The slices of a request stand one after another in `lent`, guards between them, and the same bytes
@@ -198,71 +263,106 @@ static void put_guard(void) {
     for (int i = 0; i < GUARD; i++) kept[room_end++] = (uint8_t)(0xC3 + 37 * i);
 }
 
-static slice take_slice(void) {
-    slice s = {0};
-    uint64_t length = take_number();
-    if (length & UNTOUCHED) {
-        /* Nothing may be written to it, and its neighbours on both sides may not even be read. */
-        s.untouched = 1;
-        s.length = length & ~UNTOUCHED;
-        s.at = (uint8_t *)map(s.length + 2 * PAGE, PROT_NONE) + PAGE;
-        if (mprotect(s.at, s.length, PROT_READ) != 0) stop("cannot protect memory");
-        return s;
-    }
+static void need_room(uint64_t length) {
     if (length > ROOM || room_end + length + 2 * GUARD > ROOM) stop("a request is too large");
+}
+
+static slice take_sent(uint64_t length) {
+    need_room(length);
     put_guard();
-    s.offset = room_end;
-    s.length = length;
-    s.at = lent + s.offset;
+    slice s = {.at = lent + room_end, .length = length, .offset = room_end};
     take(kept + s.offset, s.length);
     room_end += s.length;
     put_guard();
     return s;
 }
 
+/* A slice on pages of its own, up to the end of the last; the pages beside them may not even be read. */
+static slice apart(size_t length, int access, int flags) {
+    size_t pages = (length + PAGE - 1) / PAGE * PAGE;
+    slice s = {.length = length, .area_size = pages + 2 * PAGE};
+    s.area = map(s.area_size, PROT_NONE, flags);
+    if (s.area != 0 && mprotect(s.area + PAGE, pages, access) == 0) s.at = s.area + PAGE + pages - length;
+    return s;
+}
+
+static slice untouched(size_t length) {
+    slice s = apart(length, PROT_READ, MAP_NORESERVE);
+    if (s.at == 0) stop("cannot map memory");
+    return s;
+}
+
+static slice take_repeated(uint64_t head) {
+    uint64_t copies = take_number(), tail = take_number();
+    uint8_t byte, *ends = kept + room_end; /* where the next slice will stand, so only for now */
+    take(&byte, 1);
+    need_room(head), need_room(tail), need_room(head + tail);
+    take(ends, head + tail);
+    slice s = apart(head + copies + tail, PROT_READ | PROT_WRITE, 0);
+    if (s.at == 0) return s;
+    memcpy(s.at, ends, head);
+    for (uint64_t i = 0; i < copies; i++) s.at[head + i] = byte; /* the emulator's memset is far slower */
+    memcpy(s.at + head + copies, ends + head, tail);
+    if (mprotect(s.area + PAGE, s.area_size - 2 * PAGE, PROT_READ) != 0) stop("cannot protect memory");
+    return s;
+}
+
+static slice take_slice(void) {
+    uint64_t length = take_number();
+    if (length & UNTOUCHED) return untouched(length & ~UNTOUCHED);
+    if (length & REPEATED) return take_repeated(length & ~REPEATED);
+    return take_sent(length);
+}
+
 static int changed(size_t from, size_t count) { return memcmp(lent + from, kept + from, count) != 0; }
 
+/* A slice that stands apart cannot be written, nor what is beside it. */
 static int harmed(const slice *s, char kind) {
-    if (s->untouched) return 0;
+    if (s->area != 0) return 0;
     return changed(s->offset - GUARD, GUARD) || changed(s->offset + s->length, GUARD) ||
            (kind == 'r' && changed(s->offset, s->length));
 }
 
-static const call *find(char code) {
-    for (size_t i = 0; i < sizeof calls / sizeof *calls; i++)
-        if (calls[i].code == code) return &calls[i];
-    stop("no such call");
-}
-
-static void answer(void) {
-    char code;
-    uint64_t n[NUMBERS], a[ANSWERS], harm = 0;
-    slice s[SLICES];
-
-    take(&code, 1);
-    const call *c = find(code);
-    for (int i = 0; i < c->numbers; i++) n[i] = take_number();
-    room_end = 0;
-    for (int i = 0; c->slices[i] != 0; i++) s[i] = take_slice();
+static void make_and_answer(const call *c, const uint64_t *n, const slice *s) {
+    uint64_t a[ANSWERS], harm = 0;
     memcpy(lent, kept, room_end);
-
-    uint64_t count = (uint64_t)make(code, n, s, a);
-
+    uint64_t count = (uint64_t)c->make(c->code, n, s, a);
     for (int i = 0; harm == 0 && c->slices[i] != 0; i++)
         if (harmed(&s[i], c->slices[i])) harm = (uint64_t)i + 1;
     put(&count, sizeof count);
     put(a, count * sizeof *a);
     put(&harm, sizeof harm);
-    for (int i = 0; c->slices[i] != 0; i++) {
+    for (int i = 0; c->slices[i] != 0; i++)
         if (c->slices[i] == 'w') put(s[i].at, s[i].length);
-        if (s[i].untouched) munmap(s[i].at - PAGE, s[i].length + 2 * PAGE);
+}
+
+static void answer(void) {
+    char code;
+    uint64_t n[NUMBERS], no_memory = NO_MEMORY;
+    slice s[SLICES];
+    int missing = 0;
+
+    take(&code, 1);
+    const call *c = find(code);
+    for (int i = 0; i < c->numbers; i++) n[i] = take_number();
+    room_end = 0;
+    for (int i = 0; c->slices[i] != 0; i++) {
+        s[i] = take_slice();
+        missing += s[i].at == 0;
     }
+    if (missing)
+        put(&no_memory, sizeof no_memory);
+    else
+        make_and_answer(c, n, s);
+    for (int i = 0; c->slices[i] != 0; i++)
+        if (s[i].area != 0) munmap(s[i].area, s[i].area_size);
     flush(); /* at each answer, so that the first call unanswered is the one that the driver died of */
 }
 
 int main(void) {
-    lent = map(ROOM, PROT_READ | PROT_WRITE);
-    kept = map(ROOM, PROT_READ | PROT_WRITE);
+    lent = map(ROOM, PROT_READ | PROT_WRITE, MAP_NORESERVE);
+    kept = map(ROOM, PROT_READ | PROT_WRITE, MAP_NORESERVE);
+    if (lent == 0 || kept == 0) stop("cannot map memory");
     while (more()) answer();
     return 0;
 }

@@ -9,21 +9,26 @@ LETTERS = b"ACGT"
 STEPS = (7, 8, 9, 15, 16, 17, 31, 32, 33, 63, 64, 65, 127, 128, 129, 1023, 1024, 1025, 2048)
 
 
-def texts(longest):
-    """Every text of the two letters A and C with up to so many of them."""
+def texts(longest, alphabet=b"AC"):
+    """Every text of these letters with up to so many of them."""
     for length in range(longest + 1):
-        for text in product(b"AC", repeat=length):
+        for text in product(alphabet, repeat=length):
             yield bytes(text)
 
 
-def every_small(longest=6):
-    """Every allele on a reference of up to so many residues, each A or C, with a replacement of up to 3."""
-    replacements = list(texts(3))
-    for reference in texts(longest):
-        for end in range(len(reference) + 1):
-            for start in range(end + 1):
-                for replacement in replacements:
-                    yield reference, start, end, replacement
+def every_small(longest=6, alphabet=b"AC", most=3):
+    """Every allele on a reference of up to so many of these letters, with a replacement of up to so many."""
+    replacements = list(texts(most, alphabet))
+    for reference in texts(longest, alphabet):
+        yield from every_on(reference, replacements)
+
+
+def every_on(reference, replacements):
+    """Every interval of the reference, with each of the replacements."""
+    for end in range(len(reference) + 1):
+        for start in range(end + 1):
+            for replacement in replacements:
+                yield reference, start, end, replacement
 
 
 def residues(rng, length, alphabet=LETTERS):

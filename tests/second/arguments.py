@@ -1,4 +1,9 @@
 """Arguments to try in more calls than one, and ways to spoil them."""
+from itertools import product
+
+import alleles
+from model import REFERENCE_LIMIT
+
 # The bytes on either side of A to Z, a lower-case letter, and the ends of a byte's range.
 FOREIGN = (0x40, 0x5B, 0x61, 0x7A, 0x00, 0xFF)
 # SHA-512 takes blocks of 128 bytes, and pads into one more where under 17 bytes of the last are left.
@@ -13,6 +18,18 @@ def far(length):
     """Places at which a sum of place and length passes the end of 64 bits, or its sign."""
     places = (2**32, 2**63 - 1, 2**63, 2**64 - length - 1, 2**64 - length, 2**64 - length + 1, 2**64 - 1)
     return tuple(place for place in places if place < 2**64)
+
+
+def extreme(rng):
+    """Any number of 64 bits, as often short as long, or one beside a power of two or the longest reference's length."""
+    power = 2**rng.randint(0, 64)
+    beside = rng.choice((power, power, REFERENCE_LIMIT)) + rng.randint(-2, 2)
+    return rng.choice((rng.randrange(power), beside % 2**64))
+
+
+def some_extreme(rng, *numbers):
+    """The numbers, about every second one an extreme one instead."""
+    return tuple(rng.choice((number, extreme(rng))) for number in numbers)
 
 
 def letters(rng, length):
@@ -62,6 +79,23 @@ def marred(rng, reference, start, end, replacement):
     if rng.random() < 0.3:
         start, end = misplaced(rng, reference, start, end)
     return reference, start, end, replacement
+
+
+def every_foreign(longest):
+    """Every allele on a reference of up to so many bytes, each A, C or a foreign one, which comes at least once, with
+    a replacement of up to 2 residues."""
+    replacements = list(alleles.texts(2))
+    for reference in alleles.texts(longest, b"ACx"):
+        if b"x" in reference:
+            yield from alleles.every_on(reference, replacements)
+
+
+def every_interval():
+    """Every two positions up to some past the end of a short reference, and far ones, in any order."""
+    for reference in (b"", b"A", b"AC", b"ACA"):
+        positions = *range(len(reference) + 4), *FAR_POSITIONS
+        for start, end, replacement in product(positions, positions, (b"", b"A", b"Ca")):
+            yield reference, start, end, replacement
 
 
 def foreign_units():

@@ -3,7 +3,7 @@ from itertools import product
 
 import model
 import register
-from arguments import FAR_POSITIONS, with_byte
+from arguments import FAR_POSITIONS, some_extreme, with_byte
 from register_calls import blank
 from text_cases import digests, some_digest, spoiled_digest
 
@@ -59,7 +59,10 @@ def blank_cases(rng):
     for digest in digests(rng):
         yield blank(rng.randbytes(150), 11, digest, 2, 3, 15)
     yield from orders(rng)
-    for _ in range(2000):
+    for _ in range(10_000):
+        residues, *capacities = some_extreme(rng, 11, 2, 3, 15)
+        yield blank(rng.randbytes(150), residues, some_digest(rng), *capacities)
+    for _ in range(10_000):
         capacities = rng.randint(0, 40), rng.randint(0, 40), rng.randint(0, 300)
         room = max(size(*capacities) + rng.choice((-1, 0, 0, 0, 1, rng.randint(-100, 100))), 0)
         digest = rng.choice((some_digest, some_digest, some_digest, spoiled_digest))(rng)

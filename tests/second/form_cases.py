@@ -3,7 +3,8 @@ from itertools import chain
 
 import alleles
 import model
-from arguments import far, foreign_units, letters, marred, room_and_place, with_byte
+from arguments import (every_foreign, every_interval, far, foreign_units, letters, marred, room_and_place, some_extreme,
+                       with_byte)
 from exchange import Case, Untouched
 
 
@@ -77,14 +78,22 @@ def nothing_beside_zeros(reference):
         yield normal_form_case(reference, start, start + 1, b"", b"", 0, (5, 0, 0, 0, 0, 0), b"")
 
 
+def extreme_numbers(rng):
+    for _ in range(20_000):
+        reference, start, end, replacement = alleles.any_allele(rng)
+        start, end, place = some_extreme(rng, start, end, 0)
+        yield normal_form(reference, start, end, replacement, rng.randbytes(100), place)
+
+
 def normal_form_cases(rng):
-    for allele in alleles.every_small():
+    for allele in chain(alleles.every_small(7), alleles.every_small(5, b"ACG", 2), every_foreign(5), every_interval()):
         yield normal_form(*allele, rng.randbytes(13), 3)
     for allele in chain(alleles.long_rolls(), foreign_units()):
         yield placed(rng, *allele)
-    for _ in range(6000):
+    for _ in range(20_000):
         yield placed(rng, *alleles.any_allele(rng))
-    for _ in range(8000):
+    for _ in range(30_000):
         yield placed(rng, *marred(rng, *alleles.any_allele(rng)))
+    yield from extreme_numbers(rng)
     yield from every_room(rng)
     yield from at_the_limits(rng)

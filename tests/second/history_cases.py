@@ -1,9 +1,10 @@
 """Histories of a register: calls of all kinds on small references and small capacities, one after another."""
+import alleles
 import model
-from alleles import widened
 from arguments import marred, with_byte
 from exchange import Untouched
 from images import ISSUED_AT, from_elsewhere, image_of, number_at, small_allele, small_reference
+from register import Register
 from register_calls import after, blank, entry, seal, undo, withdraw
 from text_cases import some_digest, spoiled_digest
 
@@ -24,7 +25,7 @@ def said_otherwise(rng, reference, start, end, replacement):
     if refusal == 0 and rng.random() < 0.4:
         _, start, end, replacement = form
     if start <= end <= len(reference) and rng.random() < 0.5:
-        _, start, end, replacement = widened(rng, reference, start, end, replacement)
+        _, start, end, replacement = alleles.widened(rng, reference, start, end, replacement)
     return start, end, replacement
 
 
@@ -78,6 +79,20 @@ def history(rng):
         image = after(case)
 
 
+def every_small_entered(rng, longest):
+    """Every allele on each reference of up to so many residues, one after another into one register: those that make
+    the same sequence have one number."""
+    replacements = list(alleles.texts(3))
+    for reference in alleles.texts(longest):
+        digest = some_digest(rng)
+        image = image_of(rng, Register(120, 120, 320, len(reference), digest))
+        for _, start, end, replacement in alleles.every_on(reference, replacements):
+            case = entry(image, digest, reference, start, end, replacement)
+            yield case
+            image = after(case)
+
+
 def history_cases(rng):
-    for _ in range(600):
+    yield from every_small_entered(rng, 5)
+    for _ in range(5000):
         yield from history(rng)

@@ -11,7 +11,8 @@ from register import ACTIVE, ENTRY_SIZE, HEADER_SIZE, INACTIVE, RECORD_SIZE, Rec
 
 # The header's numbers are at 0, 4 and so on to 40.
 NUMBERS_AT = range(0, 44, 4)
-ISSUED_AT, JOURNALLED_AT, POOL_CAPACITY_AT, USED_AT = 8, 20, 28, 32
+RECORDS_CAPACITY_AT, JOURNAL_CAPACITY_AT, POOL_CAPACITY_AT = 4, 16, 28
+ISSUED_AT, JOURNALLED_AT, USED_AT = 8, 20, 32
 # Within and over the limits, and values whose sums come back to something small at 32 bits.
 VALUES = (0, 1, 2, 75, 76, 77, 9_999, 10_000, 10_001, 9_999_999, 10_000_000, 10_000_001, 999_999_999, 1_000_000_000,
           1_000_000_001, 2**30, 2**31 - 1, 2**31, 2**32 // 20 + 1, 2**32 - 76, 2**32 - 20, 2**32 - 4, 2**32 - 1)
@@ -86,6 +87,22 @@ def numbers_damaged(image, places):
             yield with_number(image, place, other)
 
 
+def nudged(rng, register):
+    """The register's image with a number or two a little off, and its offsets perhaps as its capacities then ask."""
+    image = image_of(rng, register, rng.randint(0, 5))
+    for _ in range(rng.choice((1, 1, 2))):
+        place = rng.choice((*NUMBERS_AT, *NUMBERS_AT, *range(HEADER_SIZE, register.pool_at(), 4)))
+        image = with_number(image, place, (number_at(image, place) + rng.choice((-20, -4, -1, 1, 4, 20))) % 2**32)
+    return with_offsets(image) if rng.random() < 0.5 else image
+
+
+def with_offsets(image):
+    """The image with the offsets that its capacities ask for."""
+    journal_at = (HEADER_SIZE + RECORD_SIZE * number_at(image, RECORDS_CAPACITY_AT)) % 2**32
+    pool_at = (journal_at + ENTRY_SIZE * number_at(image, JOURNAL_CAPACITY_AT)) % 2**32
+    return with_number(with_number(image, 24, journal_at), 36, pool_at)
+
+
 def cut(image):
     """Every beginning of the image."""
     return (image[:length] for length in range(len(image) + 1))
@@ -124,6 +141,5 @@ def sums_past_32_bits(rng, digest):
         yield with_number(image, USED_AT, 3)
     # offsets of the header, the same
     for records in (2**32 // 20 + 1, 2**32 // 20 + 4, 2**31 // 5):
-        image = with_number(image_of(rng, three._replace(issued=(), journalled=())), 4, records)
-        journal_at = (HEADER_SIZE + RECORD_SIZE * records) % 2**32
-        yield with_number(with_number(image, 24, journal_at), 36, (journal_at + ENTRY_SIZE * 2) % 2**32)
+        image = image_of(rng, three._replace(issued=(), journalled=()))
+        yield with_offsets(with_number(image, RECORDS_CAPACITY_AT, records))

@@ -32,6 +32,8 @@ def longest_reference(rng):
         intervals += [(5 + 2**power, 7 + 2**power), (5, 7 + 2**power)]
     issued = tuple(Record(start, end, b"CAG", number % 2) for number, (start, end) in enumerate(intervals))
     images = [image_of(rng, Register(20, 9, 60, n, DIGEST, some)) for some in (issued, issued[::-1], issued[:3], ())]
+    yield entry(images[0], DIGEST, Untouched(n + 1), 5, 5, b"CAG")
+    yield entry(images[0], DIGEST, Untouched(n - 1), 5, 5, b"CAG")
     for image, (start, end) in product(images, intervals):
         for replacement in (b"CAG", b"CAT"):
             form = model.Form(model.INDEL, start, end, replacement)
@@ -83,6 +85,9 @@ def large_pool(rng):
     yield seal(with_byte(image, len(image) - 1, 0x61))
     short = issued[:-1] + (issued[-1]._replace(replacement=longest[1:]),)
     yield entry(image_of(rng, register._replace(issued=short)), DIGEST, reference, 11, 11, b"A")
+    room = image_of(rng, register._replace(issued=issued[:-1]))
+    for replacement in (longest, longest + b"A", with_byte(longest, len(longest) - 1, 0x5B)):
+        yield entry(room, DIGEST, reference, 11, 11, replacement)
 
 
 def long_replacement(rng):

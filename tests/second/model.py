@@ -4,14 +4,16 @@ The digests are hashlib's and base64's. A refusal is its number and its value; (
 """
 import base64
 import hashlib
+from bisect import bisect_left
+from functools import lru_cache
 from typing import NamedTuple
 
 REFERENCE_LIMIT = 1_000_000_000
 REPLACEMENT_LIMIT = 1_000_000
 IDENTIFIER_LENGTH = 41
 DIGEST_LENGTH = 32
-RESIDUES = frozenset(b"ABCDEFGHIJKLMNOPQRSTUVWXYZ")
-BASE64URL = frozenset(b"ABCDEFGHIJKLMNOPQRSTUVWXYZabcdefghijklmnopqrstuvwxyz0123456789-_")
+RESIDUES = b"ABCDEFGHIJKLMNOPQRSTUVWXYZ"
+BASE64URL = b"ABCDEFGHIJKLMNOPQRSTUVWXYZabcdefghijklmnopqrstuvwxyz0123456789-_"
 
 ACCEPTED = (0, 0)
 
@@ -31,12 +33,16 @@ class Form(NamedTuple):
 
 def first_outside(alphabet, text):
     """The offset of the first byte of text that is not in the alphabet, or None."""
-    return next((i for i, byte in enumerate(text) if byte not in alphabet), None)
+    inside = len(text) - len(text.lstrip(alphabet))
+    return inside if inside < len(text) else None
 
 
-def digest(message):
-    """sha512t24u: the first 24 bytes of SHA-512, in base64url."""
-    return base64.urlsafe_b64encode(hashlib.sha512(message).digest()[:24])
+def digest(*pieces):
+    """sha512t24u of a message, whole or in pieces: the first 24 bytes of SHA-512, in base64url."""
+    hasher = hashlib.sha512()
+    for piece in pieces:
+        hasher.update(piece)
+    return base64.urlsafe_b64encode(hasher.digest()[:24])
 
 
 def no_room(room, place, needed):
@@ -90,9 +96,9 @@ def digest_text(text):
 
 
 def common_prefix(one, other):
-    """The length of the longest common prefix."""
+    """The length of the longest common prefix: the first with which one byte more makes a difference."""
     shorter = min(len(one), len(other))
-    return next((i for i in range(shorter) if one[i] != other[i]), shorter)
+    return bisect_left(range(shorter), True, key=lambda length: one[:length + 1] != other[:length + 1])
 
 
 def common_suffix(one, other):
@@ -100,6 +106,7 @@ def common_suffix(one, other):
     return common_prefix(one[::-1], other[::-1])
 
 
+@lru_cache(1)  # often asked twice in a row
 def form(reference, start, end, replacement):
     """The normal form of an allele that nothing speaks against: both whole sequences are compared, from
     either end, and the two lengths may overlap."""

@@ -41,6 +41,13 @@ def damaged(text):
             yield text[:i] + bytes([byte]) + text[i:]
 
 
+def every_byte(text):
+    """The text with every byte in the place of each one, and before it."""
+    for i, byte in product(range(len(text) + 1), range(256)):
+        yield with_byte(text, i, byte)
+        yield text[:i] + bytes([byte]) + text[i:]
+
+
 def damaged_more(rng, text):
     """The text with two or three bytes changed, lost or put in."""
     for _ in range(rng.choice((2, 2, 3))):
@@ -70,10 +77,11 @@ def one_digit_off(rng, number):
 def number_pairs(rng):
     """An end and a start as they stand in a text."""
     yield from product(NUMBERS, repeat=2)
+    yield from product([b"%d" % number for number in range(111)], repeat=2)
     for end in POWERS:
         for start in (0, end // 10, end - 1, end, end + 1, 10 * end, 10 * end + 9, end + 2**32, end + 2**64):
             yield b"%d" % end, b"%d" % start
-    for _ in range(2500):
+    for _ in range(8000):
         end = rng.randint(0, 10**rng.randint(0, 9))
         yield b"%d" % end, one_digit_off(rng, end)
         yield one_digit_off(rng, rng.choice((end, LIMIT))), b"%d" % rng.randint(0, end)
@@ -106,7 +114,8 @@ def location_texts(rng):
         yield texts.LOCATION % (end, start, some_digest(rng))
     for digest in filled_digests(rng):
         yield texts.LOCATION % (b"10", b"1", digest)
-    for _ in range(2500):
+    yield from every_byte(texts.location(45, 450, some_digest(rng)))
+    for _ in range(12_000):
         yield damaged_more(rng, texts.location(*rng.choice(some), some_digest(rng)))
 
 
@@ -123,7 +132,8 @@ def allele_texts(rng):
         yield texts.allele(some_digest(rng), with_byte(letters(rng, 1500), offset, byte))
     for digest in filled_digests(rng):
         yield texts.allele(digest, b"CAG")
-    for _ in range(2500):
+    yield from every_byte(texts.allele(some_digest(rng), b"AZ"))
+    for _ in range(12_000):
         yield damaged_more(rng, texts.allele(some_digest(rng), rng.choice(some)))
 
 

@@ -2,6 +2,7 @@
 
 A call answers its refusal and value, then what else it answers, and the image afterwards.
 """
+from functools import lru_cache
 from struct import iter_unpack, pack, unpack_from
 from typing import NamedTuple
 
@@ -79,6 +80,7 @@ def laid(register, image):
     return bytes(image)
 
 
+@lru_cache(1)  # often asked several times in a row
 def read(image):
     """The register in an image, or None where the image is not well formed."""
     if len(image) < HEADER_SIZE:
@@ -107,7 +109,7 @@ def with_lists(register, slots, entries, letters):
             return None
         issued.append(Record(start, end, letters[offset:offset + length], status))
         taken += length
-    if taken != len(letters) or letters.translate(None, bytes(model.RESIDUES)):
+    if taken != len(letters) or model.first_outside(model.RESIDUES, letters) is not None:
         return None
     if not all(1 <= number <= len(slots) for number in entries):
         return None

@@ -1,15 +1,13 @@
-"""Calls on register images: histories, and images that are damaged, full, from elsewhere or as large as they get.
+"""Calls on register images that are full, from elsewhere or as large as they get.
 
-The images here are small, and of document 01's reference.
+The images here are small, and most are of document 01's reference.
 """
-from itertools import product
+from itertools import chain, product
 
-import images
 import model
-from arguments import FAR_POSITIONS, with_byte
+from arguments import FAR_POSITIONS, every_foreign, every_interval, extreme, some_extreme, with_byte
 from exchange import Untouched
-from history_cases import history_cases
-from images import image_of, with_number
+from images import image_of
 from large_cases import large_cases
 from register import ACTIVE, INACTIVE, Record, Register
 from register_calls import after, entry, seal, undo, withdraw
@@ -33,11 +31,19 @@ def on_repeat(image, allele):
     return entry(image, DIGEST, REPEAT, *allele)
 
 
+def enter_insertion(image):
+    return on_repeat(image, INSERTION)
+
+
+def withdraw_first(image):
+    return withdraw(image, 1)
+
+
+CALLS = enter_insertion, withdraw_first, undo, seal
+
+
 def every_call(image):
-    yield on_repeat(image, INSERTION)
-    yield withdraw(image, 1)
-    yield undo(image)
-    yield seal(image)
+    return (call(image) for call in CALLS)
 
 
 def some_registers():
@@ -48,31 +54,6 @@ def some_registers():
     yield full
     yield Register(2, 3, 15, len(REPEAT), DIGEST)
     yield Register(0, 0, 0, len(REPEAT), DIGEST)
-
-
-def damaged_images(rng):
-    for register in some_registers():
-        image = image_of(rng, register, 5)
-        yield image
-        yield from images.bytes_damaged(image, range(len(image)))
-        yield from images.cut(image)
-        numbers_end = register.journal_at() + 4 * register.journal
-        yield from images.numbers_damaged(image, (*images.NUMBERS_AT, *range(76, numbers_end, 4)))
-    yield from images.counts_over(rng, DIGEST)
-    yield from images.sums_past_32_bits(rng, DIGEST)
-
-
-def damaged_twice(rng):
-    """Two or three bytes or numbers changed."""
-    registers = list(some_registers())
-    for _ in range(1500):
-        image = image_of(rng, rng.choice(registers), 3)
-        for _ in range(rng.choice((2, 2, 3))):
-            if rng.random() < 0.5:
-                image = with_byte(image, rng.randrange(len(image)), rng.randrange(256))
-            else:
-                image = with_number(image, rng.choice(images.NUMBERS_AT), rng.choice(images.VALUES))
-        yield image
 
 
 def held_more_than_once(rng):
@@ -159,12 +140,21 @@ def withdrawal_numbers(rng):
         image = image_of(rng, register)
         for number in (*range(6), *FAR_POSITIONS, 2**32 + 2, 2**32 + 3, 2**64 - 2**32 + 1):
             yield withdraw(image, number)
+        for _ in range(500):
+            yield withdraw(image, extreme(rng))
+
+
+def entered_positions(rng):
+    """Alleles beside foreign bytes, or with positions out of order or past the end, into an image without records."""
+    for reference, start, end, replacement in chain(every_foreign(3), every_interval()):
+        image = image_of(rng, Register(1, 1, 9, len(reference), DIGEST))
+        yield entry(image, DIGEST, reference, start, end, replacement)
+    image = image_of(rng, Register(1, 1, 20, len(REPEAT), DIGEST))
+    for _ in range(5000):
+        yield on_repeat(image, (*some_extreme(rng, 4, 5), rng.choice((b"", b"CAG", b"T"))))
 
 
 def register_cases(rng):
-    yield from history_cases(rng)
-    for makers in (damaged_images, damaged_twice):
-        for image in makers(rng):
-            yield from every_call(image)
-    for cases in (held_more_than_once, beside_the_form, not_in_normal_form, any_room, orders, withdrawal_numbers, large_cases):
+    for cases in (held_more_than_once, beside_the_form, not_in_normal_form, any_room, orders, withdrawal_numbers,
+                  entered_positions, large_cases):
         yield from cases(rng)

@@ -1,6 +1,6 @@
 """Calls for the identifier of a whole reference."""
 import model
-from arguments import EDGES, far, letters, spoiled, with_byte
+from arguments import EDGES, extreme, far, letters, spoiled, with_byte
 from exchange import Case, Untouched
 
 FAR = far(model.IDENTIFIER_LENGTH)
@@ -13,7 +13,7 @@ def sequence_identifier(reference, out, place):
 
 def sequence_identifier_cases(rng):
     # every length, so every padding
-    for length in range(601):
+    for length in range(1201):
         yield sequence_identifier(letters(rng, length), rng.randbytes(41), 0)
     # every byte value, at the offsets where a loop begins, turns and ends
     for byte in range(256):
@@ -25,12 +25,12 @@ def sequence_identifier_cases(rng):
         for place in (*near, *FAR):
             yield sequence_identifier(letters(rng, 4), rng.randbytes(room), place)
     # all of it at once
-    for _ in range(6000):
+    for _ in range(20_000):
         reference = letters(rng, rng.choice((rng.choice(EDGES), rng.randint(0, 600))))
         if reference and rng.random() < 0.4:
             reference = spoiled(rng, reference)
         out = rng.randbytes(rng.choice((rng.randint(0, 200), 40, 41, 42)))
-        place = rng.choice((0, max(len(out) - 41, 0), rng.randint(0, len(out)), rng.randint(0, 250), rng.choice(FAR)))
+        place = rng.choice((0, max(len(out) - 41, 0), rng.randint(0, 250), rng.choice(FAR), extreme(rng)))
         yield sequence_identifier(reference, out, place)
     # the limit, and one byte over it, each with and without room
     for length in (model.REFERENCE_LIMIT, model.REFERENCE_LIMIT + 1):

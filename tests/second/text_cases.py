@@ -6,7 +6,8 @@ import alleles
 import model
 import published
 import texts
-from arguments import FAR_POSITIONS, far, foreign_units, letters, marred, room_and_place, with_byte
+from arguments import (FAR_POSITIONS, every_foreign, every_interval, far, foreign_units, letters, marred,
+                       room_and_place, some_extreme, with_byte)
 from exchange import Case, Untouched
 
 BASE64URL = sorted(model.BASE64URL)
@@ -112,7 +113,10 @@ def location_cases(call, rng):
     for positions in ((0, 0), (1, 10), (LIMIT, LIMIT)):
         yield from every_room(rng, call, LIMIT, *positions, some_digest(rng))
     yield from location_orders(rng, call)
-    for _ in range(3000):
+    for _ in range(12_000):
+        length, start, end, place = some_extreme(rng, LIMIT, 1, 10, 0)
+        yield call.case(length, start, end, some_digest(rng), rng.randbytes(150), place)
+    for _ in range(12_000):
         length, start, end = (rng.randint(0, 10**rng.randint(0, 10)) for _ in range(3))
         start, end = rng.choice(((start, end), (min(start, end), max(start, end))))
         digest = rng.choice((some_digest, some_digest, spoiled_digest))(rng)
@@ -164,7 +168,7 @@ def published_alleles(rng, call):
 def long_alleles(rng, call):
     """Long replacements, long rolls, and the longest reference."""
     most = letters(rng, model.REPLACEMENT_LIMIT)
-    for reference, replacement in ((b"", most), (b"ACGT", with_byte(most, len(most) - 1, 0x5B))):
+    for reference, replacement in ((b"", most), (b"", most + b"A"), (b"ACGT", with_byte(most, len(most) - 1, 0x5B))):
         yield call.placed(rng, reference, 0, len(reference), replacement, some_digest(rng))
     for run in (99_999, 100_000):
         yield call.placed(rng, b"A" * run, run // 3, run // 3, b"A", some_digest(rng))
@@ -178,11 +182,16 @@ def long_alleles(rng, call):
 
 
 def allele_cases(call, rng):
-    for allele in chain(alleles.every_small(4), alleles.long_rolls(), foreign_units()):
+    every = alleles.every_small(6), alleles.every_small(4, b"ACG", 2), every_foreign(4), every_interval()
+    for allele in chain(*every, alleles.long_rolls(), foreign_units()):
         yield call.placed(rng, *allele, some_digest(rng))
-    for _ in range(2500):
+    for _ in range(8000):
+        reference, start, end, replacement = alleles.any_allele(rng)
+        start, end, place = some_extreme(rng, start, end, 0)
+        yield call.case(reference, start, end, replacement, some_digest(rng), rng.randbytes(200), place)
+    for _ in range(10_000):
         yield call.placed(rng, *alleles.any_allele(rng), some_digest(rng))
-    for _ in range(4000):
+    for _ in range(16_000):
         digest = rng.choice((some_digest, some_digest, spoiled_digest))(rng)
         yield call.placed(rng, *marred(rng, *alleles.any_allele(rng)), digest)
     for digest in digests(rng):

@@ -108,22 +108,31 @@ def accepted_allele(text):
     return found.start(1), found.start(2), len(found[2])
 
 
-def completed(accepted, specimen, prefix):
-    """Whether some end of the specimen, an accepted text, makes an accepted text of the prefix."""
-    return any(accepted(prefix + specimen[i:]) for i in range(len(specimen) + 1))
+def completed(accepted, specimen, fixed, more, prefix):
+    """Whether some end of the specimen, an accepted text, makes an accepted text of the prefix. Ends are left out
+    that make it too short, too long by more than what holes may hold more, or too long before the first such hole,
+    which is behind so many fixed bytes."""
+    earliest = max(min(len(prefix), fixed), len(prefix) - more)
+    ends = range(earliest, min(len(prefix), len(specimen)) + 1)
+    return any(accepted(prefix + specimen[i:]) for i in ends)
 
 
 # Each specimen has the least in its holes: 0, no letter, any digest. So where a prefix can be completed
 # at all, one of its ends does it: a number or the letters may end where they stand, and a digest may go
 # on with any character.
+SOME_LOCATION, SOME_ALLELE = location(0, 0, b"A" * 32), allele(b"A" * 32, b"")
+BEFORE_END, BEFORE_LETTERS = SOME_LOCATION.index(b"0"), SOME_ALLELE.index(b'","type":"SequenceState"')
+MORE_DIGITS = 2 * (len(b"1000000000") - 1)
+
+
 @lru_cache(4096)
 def begins_location(prefix):
-    return completed(accepted_location, location(0, 0, b"A" * 32), prefix)
+    return completed(accepted_location, SOME_LOCATION, BEFORE_END, MORE_DIGITS, prefix)
 
 
 @lru_cache(4096)
 def begins_allele(prefix):
-    return completed(accepted_allele, allele(b"A" * 32, b""), prefix)
+    return completed(accepted_allele, SOME_ALLELE, BEFORE_LETTERS, LETTERS_LIMIT, prefix)
 
 
 def longest(begins, text):

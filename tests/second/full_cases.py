@@ -1,0 +1,91 @@
+"""Calls at full size on memory that is filled: all residues, as many as there may be.
+
+Nothing here is compared letter by letter: what each call answers is known from its one letter, and digests are
+hashlib's, over pieces.
+"""
+from functools import lru_cache
+
+import model
+import texts
+from exchange import Case, Repeated
+from images import image_of
+from register import Register
+from register_calls import entry_as
+from text_cases import ALLELE_IDENTIFIER, ALLELE_TEXT, some_digest
+
+LIMIT = model.REFERENCE_LIMIT
+LETTERS_LIMIT = texts.LETTERS_LIMIT
+LONGEST = Repeated(b"A", LIMIT)
+FOREIGN_LAST = Repeated(b"A", LIMIT - 1, tail=b"a")
+# As many letters as may be given, put into the longest reference, are rolled over all of it: the normal form is from
+# 0 to its end, with LETTERS_LIMIT letters.
+INSERTION = LONGEST, LIMIT // 2, LIMIT // 2, b"A" * model.REPLACEMENT_LIMIT
+
+
+@lru_cache
+def identifier(reference):
+    return b"ga4gh:SQ." + model.digest(*reference.pieces())
+
+
+def allele_text(location_digest, letters):
+    """The text of an allele whose replacement is so many letters A."""
+    head, tail = texts.allele(location_digest, b"%").split(b"%")
+    return Repeated(b"A", letters, head, tail)
+
+
+def read_texts(rng):
+    """A text with as many letters as there may be, without its end, and with one letter more."""
+    most, more = (allele_text(some_digest(rng), LETTERS_LIMIT + over) for over in (0, 1))
+    cut = Repeated(b"A", LETTERS_LIMIT, most.head, most.tail[:-1])
+    for text, answer in ((most, (0, 0, 13, 68, LETTERS_LIMIT)), (cut, (8, len(cut), 0, 0, 0)),
+                         (more, (8, len(more.head) + LETTERS_LIMIT, 0, 0, 0))):
+        yield Case("fv_read_allele", b"r", (), (text,), answer, ())
+
+
+def sequence_identifiers(rng):
+    """The longest reference, and the same with a foreign byte at its end."""
+    out = rng.randbytes(43)
+    for reference, answer, after in ((LONGEST, (0, 0, 41), model.written(out, 1, identifier(LONGEST))),
+                                     (FOREIGN_LAST, (4, LIMIT - 1, 0), out)):
+        yield Case("fv_sequence_identifier", b"s", (1,), (reference, out), answer, (after,))
+
+
+def in_parts(rng):
+    """The longest reference in two parts, and then a letter too many, which is refused and leaves no trace."""
+    more, out = Repeated(b"A", LIMIT + 1), rng.randbytes(43)
+    after = model.written(out, 1, identifier(LONGEST))
+    outcomes = *model.ACCEPTED, *model.ACCEPTED, 1, 0
+    yield Case("fv_running_* in a row", b"P", (LIMIT // 3, LIMIT, 1), (more, out), (0, 0, 41, *outcomes), (after,))
+
+
+def normal_forms():
+    """Without room for the normal replacement."""
+    reference, start, end, replacement = INSERTION
+    answer = 6, LETTERS_LIMIT, 0, 0, 0, 0
+    yield Case("fv_normal_form", b"n", (start, end, 0), (reference, replacement, b""), answer, (b"",))
+
+
+def alleles_said(rng):
+    """The text without room for it, and its identifier."""
+    digest = some_digest(rng)
+    text = allele_text(model.digest(texts.location(0, LIMIT, digest)), LETTERS_LIMIT)
+    yield ALLELE_TEXT.expecting((*INSERTION, digest, b"", 0), (6, len(text), 0), b"")
+    out = rng.randbytes(43)
+    after = model.written(out, 1, b"ga4gh:VA." + model.digest(*text.pieces()))
+    yield ALLELE_IDENTIFIER.expecting((*INSERTION, digest, out, 1), (0, 0, 41), after)
+
+
+def entries(rng):
+    """Into a pool without room for it."""
+    digest = some_digest(rng)
+    form = model.Form(model.INDEL, 0, LIMIT, Repeated(b"A", LETTERS_LIMIT))
+    yield entry_as(image_of(rng, Register(1, 1, 100, LIMIT, digest)), digest, *INSERTION, form)
+
+
+def full_cases(rng):
+    yield from read_texts(rng)
+    yield from sequence_identifiers(rng)
+    yield from in_parts(rng)
+    yield from normal_forms()
+    yield from alleles_said(rng)
+    yield from entries(rng)
