@@ -1,8 +1,8 @@
 // Normal forms: document 01's worked alleles, and each refusal that short slices can meet, at its
 // boundary.
-use normal::Form;
+use forming::Form;
+use forming::Normalised;
 use normal::Kind;
-use normal::Normalised;
 use print::labelled;
 use print::part;
 use print::refused;
@@ -47,7 +47,7 @@ fn line(reference: &[u8], start: u64, end: u64, replacement: &[u8], out: &mut [u
     given(reference, start, end, replacement);
     labelled(b" place ", place);
     labelled(b" room ", out.len() as u64);
-    let found = normal::normal_form(reference, start, end, replacement, out, place);
+    let found = forming::normal_form(reference, start, end, replacement, out, place);
     answered(out, place, found);
 }
 

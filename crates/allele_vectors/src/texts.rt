@@ -34,7 +34,7 @@ fn location_given(label: &[u8], start: u64, end: u64, digest: &[u8]) {
 
 fn location_text_line(start: u64, end: u64, digest: &[u8]) {
     let mut space = [0u8; ROOM];
-    let answer = identify::location_text(REFERENCE_LIMIT, start, end, digest, &mut space, 0);
+    let answer = locations::location_text(REFERENCE_LIMIT, start, end, digest, &mut space, 0);
     location_given(b"location-text ", start, end, digest);
     written_text(&space, 0, answer);
     readings::location(front(&space, answer));
@@ -42,7 +42,7 @@ fn location_text_line(start: u64, end: u64, digest: &[u8]) {
 
 fn location_identifier_line(start: u64, end: u64, digest: &[u8]) {
     let mut space = [0u8; ROOM];
-    let answer = identify::location_identifier(REFERENCE_LIMIT, start, end, digest, &mut space, 0);
+    let answer = locations::location_identifier(REFERENCE_LIMIT, start, end, digest, &mut space, 0);
     location_given(b"location-identifier ", start, end, digest);
     written_text(&space, 0, answer);
     text(b"\n");

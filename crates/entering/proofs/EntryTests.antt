@@ -15,11 +15,11 @@ use Rattle.refusal.proofs.Verdict.{none-holds, verdict-first, verdict-then, ver
 use Rattle.normal.specs.declared.Stretches.{Stretches}
 use Rattle.normal.specs.Form.{Normal, normal, altered, shorter, kindOf, kindIn}
 use Rattle.normal.specs.Stretches.{Fits, stretchesOf, asGiven, changedStretches, spread, formIn}
-use Rattle.normal.specs.declared.Located.{Located}
-use Rattle.normal.specs.declared.Located.the-variants.{Accepted as Found, Refused as Unfound}
-use Rattle.normal.specs.Calls.{formGrounds, locatedClean}
-use Rattle.normal.proofs.Answers.{told-accepted, told-refused, clean-accepted, clean-refused, clean-allele}
 use Rattle.normal.proofs.Join.{stretches-fit, stretches-join}
+use Rattle.forming.specs.declared.Located.{Located}
+use Rattle.forming.specs.declared.Located.the-variants.{Accepted as Found, Refused as Unfound}
+use Rattle.forming.specs.Calls.{formGrounds, locatedClean}
+use Rattle.forming.proofs.Answers.{told-accepted, told-refused, clean-accepted, clean-refused, clean-allele}
 use Rattle.image.specs.Formed.{wellFormed}
 use Rattle.records.specs.Does.{Does}
 use Rattle.records.proofs.Does.{does-refused, does-as}

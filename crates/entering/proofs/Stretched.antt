@@ -6,7 +6,7 @@ use lib.ListN.{length}
 use Rattle.stretch.specs.Part.{part}
 use Rattle.normal.specs.declared.Stretches.{Stretches}
 use Rattle.normal.specs.Stretches.{Fits, joined}
-use Rattle.normal.proofs.Answers.{length-joined}
+use Rattle.normal.proofs.Joined.{length-joined}
 use Rattle.records.proofs.Three.{length-three}
 
 -- as the code sums up a form's letters

@@ -7,7 +7,7 @@ use lib.ListN.{length}
 use Rattle.stretch.specs.Same.{same}
 use Rattle.refusal.specs.Verdict.{Ground, ground, verdict}
 use Rattle.normal.specs.Form.{Normal, altered, normal}
-use Rattle.normal.specs.Calls.{formGrounds}
+use Rattle.forming.specs.Calls.{formGrounds}
 use Rattle.image.specs.Fields.{recordCapacity, issued, poolCapacity, poolUsed, referenceLength, sequenceDigest}
 use Rattle.records.specs.Does.{Does, notFormed, journalFull}
 use Rattle.entering.specs.declared.Entered.{Entered}

@@ -7,10 +7,10 @@ use Rattle.refusal.specs.declared.Outcome.{Outcome}
 use Rattle.refusal.specs.declared.Outcome.the-variants.{Accepted, Refused}
 use Rattle.normal.specs.declared.Kind.{Kind}
 use Rattle.normal.specs.declared.Kind.the-variants.{Unchanged, Substitution, Indel}
-use Rattle.normal.specs.declared.Located.{Located}
-use Rattle.normal.specs.declared.Located.the-variants.{Accepted as Found, Refused as Unfound}
 use Rattle.normal.specs.Form.{Normal, normal}
 use Rattle.normal.specs.Stretches.{stretchesOf}
+use Rattle.forming.specs.declared.Located.{Located}
+use Rattle.forming.specs.declared.Located.the-variants.{Accepted as Found, Refused as Unfound}
 use Rattle.records.specs.Does.{Does}
 use Rattle.entering.specs.declared.Entered.{Entered}
 use Rattle.entering.specs.declared.Entered.the-variants.{Refused as Unentered}

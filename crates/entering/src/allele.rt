@@ -1,5 +1,8 @@
 // Entry of an allele, in its normal form.
 use super::Entered;
+use forming::Form;
+use forming::Located;
+use forming::locate_clean;
 use image::ACTIVE;
 use image::DIGEST;
 use image::HEADER_SIZE;
@@ -13,12 +16,9 @@ use image::RECORD_CAPACITY;
 use image::REFERENCE_LENGTH;
 use image::read_number;
 use image::well_formed;
-use normal::Form;
 use normal::Kind;
-use normal::Located;
 use normal::Stretches;
 use normal::joined_length;
-use normal::locate_clean;
 use records::change;
 use records::lowest_holding;
 use records::number_form;

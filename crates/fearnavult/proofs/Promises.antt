@@ -3,17 +3,18 @@ use Prim.Native.Nat.{ℕ}
 use mathlib.Core.Path.{_≡_, _∙_, sym, ap}
 use mathlib.Core.List.{List}
 use Rattle.refusal.specs.Verdict.{Verdict}
-use Rattle.refusal.specs.Writes.{Writes}
+use Rattle.refusal.specs.Writes.{Writes, Says}
 use Rattle.refusal.proofs.Writes.{writes-once}
-use Rattle.normal.specs.Calls.{Normalises}
-use Rattle.normal.proofs.Promises.{normalises-once}
+use Rattle.forming.specs.Calls.{Normalises}
+use Rattle.forming.proofs.Promises.{normalises-once}
 use Rattle.reading.specs.Accepted.{ReadsLocation, ReadsAllele}
 use Rattle.reading.proofs.Promises.{reads-location-once, reads-allele-once}
 use Rattle.sha512.specs.declared.Running.{Running}
 use Rattle.digest.specs.Calls.{Identifies, Finishes}
 use Rattle.running.specs.Calls.{Feeds}
 use Rattle.running.proofs.Promises.{feeds-once}
-use Rattle.identify.specs.Calls.{Says, SaysLocation, IdentifiesLocation, SaysAllele, IdentifiesAllele}
+use Rattle.locations.specs.Calls.{SaysLocation, IdentifiesLocation}
+use Rattle.identify.specs.Calls.{SaysAllele, IdentifiesAllele}
 use Rattle.entering.specs.Calls.{Enters}
 use Rattle.register.specs.Calls.{Blanks, Withdraws, Undoes, Seals}
 use Rattle.entering.proofs.Promises.{enters-once}

@@ -18,12 +18,13 @@ use flat::flat_undone;
 use flat::flat_written;
 use sha512::Running;
 ghost use mathlib.Core.Path.{_≡_};
-ghost use Rattle.normal.specs.Calls.{Normalises};
+ghost use Rattle.forming.specs.Calls.{Normalises};
 ghost use Rattle.reading.specs.Accepted.{ReadsLocation, ReadsAllele};
 ghost use Rattle.sha512.specs.Parts.{begun};
 ghost use Rattle.digest.specs.Calls.{Identifies, Finishes};
 ghost use Rattle.running.specs.Calls.{Feeds};
-ghost use Rattle.identify.specs.Calls.{SaysLocation, IdentifiesLocation, SaysAllele, IdentifiesAllele};
+ghost use Rattle.locations.specs.Calls.{SaysLocation, IdentifiesLocation};
+ghost use Rattle.identify.specs.Calls.{SaysAllele, IdentifiesAllele};
 ghost use Rattle.entering.specs.Calls.{Enters};
 ghost use Rattle.register.specs.Calls.{Blanks, Withdraws, Undoes, Seals};
 ghost use Rattle.flat.specs.Flat.{flatWritten, flatForm, flatLocation, flatAllele, flatOutcome, flatEntered, flatUndone, Flattened};
@@ -60,7 +61,7 @@ pub extern "C" fn fv_running_finish(state: &Running, out: &mut [u8], place: u64)
     flat_written(running::finish(state, out, place))
 }
 
-// As `normal::normal_form`.
+// As `forming::normal_form`.
 #[no_mangle]
 pub extern "C" fn fv_normal_form(
     reference: &[u8],
@@ -72,10 +73,10 @@ pub extern "C" fn fv_normal_form(
 ) -> FvForm
     ensures { λ r. ⌜ Flattened flatForm (λ a. Normalises (now (reference .entry)) start end (now (replacement .entry)) (now (out .entry)) place a (now (out .exit))) r ⌝ }
 {
-    flat_form(normal::normal_form(reference, start, end, replacement, out, place))
+    flat_form(forming::normal_form(reference, start, end, replacement, out, place))
 }
 
-// As `identify::location_text`.
+// As `locations::location_text`.
 #[no_mangle]
 pub extern "C" fn fv_location_text(
     residues: u64,
@@ -87,10 +88,10 @@ pub extern "C" fn fv_location_text(
 ) -> FvWritten
     ensures { λ r. ⌜ Flattened flatWritten (λ w. SaysLocation residues start end (now (digest .entry)) (now (out .entry)) place w (now (out .exit))) r ⌝ }
 {
-    flat_written(identify::location_text(residues, start, end, digest, out, place))
+    flat_written(locations::location_text(residues, start, end, digest, out, place))
 }
 
-// As `identify::location_identifier`.
+// As `locations::location_identifier`.
 #[no_mangle]
 pub extern "C" fn fv_location_identifier(
     residues: u64,
@@ -102,7 +103,7 @@ pub extern "C" fn fv_location_identifier(
 ) -> FvWritten
     ensures { λ r. ⌜ Flattened flatWritten (λ w. IdentifiesLocation residues start end (now (digest .entry)) (now (out .entry)) place w (now (out .exit))) r ⌝ }
 {
-    flat_written(identify::location_identifier(residues, start, end, digest, out, place))
+    flat_written(locations::location_identifier(residues, start, end, digest, out, place))
 }
 
 // As `identify::allele_text`.

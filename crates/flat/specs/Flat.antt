@@ -7,8 +7,8 @@ use Rattle.refusal.specs.declared.Outcome.{Outcome}
 use Rattle.refusal.specs.declared.Outcome.the-variants.{Accepted, Refused as Stopped}
 use Rattle.normal.specs.declared.Kind.{Kind}
 use Rattle.normal.specs.declared.Kind.the-variants.{Unchanged, Substitution, Indel}
-use Rattle.normal.specs.declared.Normalised.{Normalised}
-use Rattle.normal.specs.declared.Normalised.the-variants.{Accepted as Formed, Refused as Unformed}
+use Rattle.forming.specs.declared.Normalised.{Normalised}
+use Rattle.forming.specs.declared.Normalised.the-variants.{Accepted as Formed, Refused as Unformed}
 use Rattle.reading.specs.declared.LocationRead.{LocationRead}
 use Rattle.reading.specs.declared.LocationRead.the-variants.{Accepted as Located, Refused as Unlocated}
 use Rattle.reading.specs.declared.AlleleRead.{AlleleRead}

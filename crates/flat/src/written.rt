@@ -1,8 +1,8 @@
 // The answers of the calls that write, flattened.
 use super::FvForm;
 use super::FvWritten;
+use forming::Normalised;
 use normal::Kind;
-use normal::Normalised;
 use refusal::Written;
 ghost use mathlib.Core.Path.{_≡_};
 ghost use Rattle.flat.specs.Flat.{flatWritten, flatKind, flatForm};

@@ -12,7 +12,7 @@ use Rattle.refusal.specs.Verdict.{Verdict, accepted, refused, verdict, ground}
 use Rattle.refusal.specs.declared.Refusal.{Refusal}
 use Rattle.refusal.proofs.Verdict.{none-holds, verdict-fewer, verdict-later}
 use Rattle.normal.specs.Form.{altered, normal}
-use Rattle.normal.specs.Calls.{formGrounds}
+use Rattle.forming.specs.Calls.{formGrounds}
 use Rattle.image.specs.Fields.{issued, journalCapacity, journalCount, referenceLength, statusOf, active}
 use Rattle.image.specs.Formed.{wellFormed}
 use Rattle.entering.specs.Found.{found}

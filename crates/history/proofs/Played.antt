@@ -7,7 +7,7 @@ use Rattle.stretch.specs.Same.{same}
 use Rattle.refusal.specs.declared.Outcome.the-variants.{Accepted}
 use Rattle.letters.specs.Letters.{residue, base64url, every, firstOutside, digestTextGrounds}
 use Rattle.normal.specs.Form.{altered, shorter, within, ahead, behind, kindIn, kindOf, changedForm, normal}
-use Rattle.normal.specs.Calls.{formGrounds}
+use Rattle.forming.specs.Calls.{formGrounds}
 use Rattle.image.specs.Numbers.{little, bytes, number, numbers, put}
 use Rattle.image.specs.Fields.{headerOf, recordAt, recordOf, replacementOf}
 use Rattle.image.specs.Formed.{laidOut, countsWithin, withinLimits, lengths, recordGood, entryGood, wellFormed}

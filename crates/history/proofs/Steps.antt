@@ -13,9 +13,9 @@ use Rattle.refusal.proofs.Verdict.{none-holds, verdict-later}
 use Rattle.letters.specs.Letters.{residue, every, foreign}
 use Rattle.letters.proofs.Outside.{foreign-le, foreign-none}
 use Rattle.normal.specs.Form.{Allele, Normal, altered, normal}
-use Rattle.normal.specs.Calls.{givenGrounds, foreignNormal, formGrounds}
-use Rattle.normal.proofs.Answers.{clean-allele}
 use Rattle.normal.proofs.Laws.{normal-ordered, normal-inside}
+use Rattle.forming.specs.Calls.{givenGrounds, foreignNormal, formGrounds}
+use Rattle.forming.proofs.Answers.{clean-allele}
 use Rattle.image.specs.Fields.{issued, recordCapacity, journalCount, journalCapacity, poolUsed, poolCapacity, statusOf, entryOf, active, inactive}
 use Rattle.image.specs.Formed.{wellFormed}
 use Rattle.image.proofs.WellFormed.{FormedEntry, formed}

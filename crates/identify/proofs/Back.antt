@@ -7,63 +7,26 @@ use lib.ListN.{length}
 use borrow.Author.Tests.{ltb-false}
 use Rattle.stretch.specs.Part.{part}
 use Rattle.refusal.specs.declared.Written.the-variants.{Bytes}
-use Rattle.refusal.specs.Limits.{referenceLimit, sequenceLimit}
-use Rattle.refusal.specs.Verdict.{accepted, verdict}
+use Rattle.refusal.specs.Limits.{sequenceLimit}
 use Rattle.refusal.proofs.Verdict.{none-holds, verdict-fewer, verdict-later}
+use Rattle.refusal.proofs.Says.{Said, says-said}
 use Rattle.letters.specs.Letters.{foreign, digestTextGrounds}
 use Rattle.letters.proofs.Outside.{foreign-le, foreign-none}
 use Rattle.normal.specs.Form.{Allele, Normal, normal}
-use Rattle.normal.specs.Calls.{givenGrounds, foreignNormal}
-use Rattle.normal.proofs.Answers.{given-allele}
 use Rattle.normal.proofs.Laws.{normal-short}
-use Rattle.text.specs.Decimal.{decimal}
-use Rattle.text.specs.Layout.{locationText, beforeEnd, beforeStart, beforeDigest, beforeLocation, beforeSequence}
+use Rattle.forming.specs.Calls.{givenGrounds, foreignNormal}
+use Rattle.forming.proofs.Answers.{given-allele}
+use Rattle.text.specs.Layout.{locationText, beforeLocation, beforeSequence}
+use Rattle.words.specs.Vocabulary.{Digest, Letters}
 use Rattle.reading.specs.declared.AlleleRead.{AlleleRead}
-use Rattle.reading.specs.declared.AlleleRead.the-variants.{Accepted as AlleleAccepted}
-use Rattle.reading.specs.declared.LocationRead.{LocationRead}
-use Rattle.reading.specs.declared.LocationRead.the-variants.{Accepted}
-use Rattle.reading.specs.Accepted.{Digest, Letters, LocationText, AlleleText, ReadsLocation, ReadsAllele, HandsBack}
-use Rattle.reading.proofs.Promises.{reads-location-back, digest-of-back, reads-allele-back, location-of-back, sequence-of-back}
+use Rattle.reading.specs.declared.AlleleRead.the-variants.{Accepted}
+use Rattle.reading.specs.Accepted.{AlleleText, ReadsAllele, HandsBack}
+use Rattle.reading.proofs.Promises.{reads-allele-back, location-of-back, sequence-of-back}
 use Rattle.digest.specs.Identifier.{sha512t24u}
 use Rattle.digest.proofs.Encoding.{length-sha512t24u}
 use Rattle.digest.proofs.Characters.{digest-characters}
 use Rattle.identify.specs.Identifiers.{textOf}
-use Rattle.identify.specs.Calls.{intervalGrounds, locationGrounds, alleleGrounds, SaysLocation, SaysAllele}
-use Rattle.identify.proofs.Answers.{Said, digest-given, says-said}
-
-module _ (n start end : ℕ) (digest out : List ℕ) (place k : ℕ) (left : List ℕ) (p : SaysLocation n start end digest out place (Bytes k) left) where
-  said : Said (locationGrounds n start end digest) (locationText start end digest) out place k left
-  said = says-said _ _ out place k left p
-
-  given : Digest digest
-  unfolding locationGrounds
-  given = digest-given digest (verdict-later (intervalGrounds n start end) (digestTextGrounds digest) (said .grounds))
-
-  passed : verdict (intervalGrounds n start end) ≡ accepted
-  unfolding locationGrounds
-  passed = verdict-fewer (intervalGrounds n start end) (digestTextGrounds digest) (said .grounds)
-
-  ordered : start ≤ end
-  ordered = ltb-false end start (none-holds (intervalGrounds n start end) passed 1)
-
-  inside : end ≤ referenceLimit
-  inside =
-      omega (
-        arith,
-        ltb-false referenceLimit n (none-holds (intervalGrounds n start end) passed 0),
-        ltb-false n end (none-holds (intervalGrounds n start end) passed 2),
-      )
-
-  pub location-back : (answer : LocationRead) → ReadsLocation (part left place (place + k)) answer
-      → answer ≡ Accepted (record {
-        start = start;
-        end = end;
-        digest = length beforeEnd + length (decimal end) + length beforeStart + length (decimal start) + length beforeDigest;
-      })
-  location-back answer r = reads-location-back start end digest ordered inside given answer (rw (said .stands) at r)
-
-  pub location-digest-back : (s : List ℕ) → HandsBack LocationText (λ t a. a .digest) (part left place (place + k)) s → s ≡ digest
-  location-digest-back s h = digest-of-back start end digest ordered inside given s (rw (said .stands) at h)
+use Rattle.identify.specs.Calls.{alleleGrounds, SaysAllele}
 
 module _ (r : List ℕ) (start end : ℕ) (x digest out : List ℕ) (place k : ℕ) (left : List ℕ) (p : SaysAllele r start end x digest out place (Bytes k) left) where
   abbrev form : Normal
@@ -72,12 +35,12 @@ module _ (r : List ℕ) (start end : ℕ) (x digest out : List ℕ) (place k : �
   abbrev location : List ℕ
   location = sha512t24u (locationText (form .start) (form .end) digest)
 
-  allele-said : Said (alleleGrounds r start end x digest) (textOf form digest) out place k left
-  allele-said = says-said _ _ out place k left p
+  said : Said (alleleGrounds r start end x digest) (textOf form digest) out place k left
+  said = says-said _ _ out place k left p
 
   allele : Allele r start end x
   unfolding alleleGrounds
-  allele = given-allele r start end x (verdict-fewer (givenGrounds r start end x) (digestTextGrounds digest ++ (foreignNormal (form .replacement) ∷ [])) (allele-said .grounds))
+  allele = given-allele r start end x (verdict-fewer (givenGrounds r start end x) (digestTextGrounds digest ++ (foreignNormal (form .replacement) ∷ [])) (said .grounds))
 
   clean : length (form .replacement) ≤ foreign (form .replacement)
   unfolding alleleGrounds
@@ -85,7 +48,7 @@ module _ (r : List ℕ) (start end : ℕ) (x digest out : List ℕ) (place k : �
       ltb-false (foreign (form .replacement)) (length (form .replacement))
       (none-holds (foreignNormal (form .replacement) ∷ [])
       (verdict-later (digestTextGrounds digest) (foreignNormal (form .replacement) ∷ [])
-      (verdict-later (givenGrounds r start end x) (digestTextGrounds digest ++ (foreignNormal (form .replacement) ∷ [])) (allele-said .grounds))) 0)
+      (verdict-later (givenGrounds r start end x) (digestTextGrounds digest ++ (foreignNormal (form .replacement) ∷ [])) (said .grounds))) 0)
 
   letters : Letters sequenceLimit (form .replacement)
   letters =
@@ -102,18 +65,18 @@ module _ (r : List ℕ) (start end : ℕ) (x digest out : List ℕ) (place k : �
       }
 
   pub allele-back : (answer : AlleleRead) → ReadsAllele (part left place (place + k)) answer
-      → answer ≡ AlleleAccepted (record {
+      → answer ≡ Accepted (record {
         location = length beforeLocation;
         sequence = length beforeLocation + 32 + length beforeSequence;
         length = length (form .replacement);
       })
   unfolding textOf
-  allele-back answer t = reads-allele-back location (form .replacement) located letters answer (rw (allele-said .stands) at t)
+  allele-back answer t = reads-allele-back location (form .replacement) located letters answer (rw (said .stands) at t)
 
   pub allele-location-back : (s : List ℕ) → HandsBack AlleleText (λ t a. a .location) (part left place (place + k)) s → s ≡ location
   unfolding textOf
-  allele-location-back s h = location-of-back location (form .replacement) located letters s (rw (allele-said .stands) at h)
+  allele-location-back s h = location-of-back location (form .replacement) located letters s (rw (said .stands) at h)
 
   pub allele-sequence-back : (s : List ℕ) → HandsBack AlleleText (λ t a. a .sequence) (part left place (place + k)) s → s ≡ form .replacement
   unfolding textOf
-  allele-sequence-back s h = sequence-of-back location (form .replacement) located letters s (rw (allele-said .stands) at h)
+  allele-sequence-back s h = sequence-of-back location (form .replacement) located letters s (rw (said .stands) at h)

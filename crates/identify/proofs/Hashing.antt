@@ -1,4 +1,4 @@
--- The parts of an allele text, hashed as they lie, and the longest location text.
+-- The parts of an allele text, hashed as they lie, and how long it and its identifier are.
 use Prim.Native.Nat.{ℕ, _+_, _-_, _^_, _<_, _≤_}
 use native.Mathlib.Omega.{arith}
 use mathlib.Core.Path.{_≡_, _∙_, sym, ap, subst}
@@ -11,17 +11,15 @@ use Rattle.refusal.proofs.Sum.{tail-room}
 use Rattle.normal.specs.declared.Stretches.{Stretches}
 use Rattle.normal.specs.Form.{Normal}
 use Rattle.normal.specs.Stretches.{Fits, joined as joinedStretches, formIn}
-use Rattle.normal.proofs.Answers.{length-joined}
-use Rattle.text.specs.Decimal.{decimal}
+use Rattle.normal.proofs.Joined.{length-joined}
 use Rattle.text.specs.Layout.{locationText, alleleText, beforeLocation, beforeSequence, behindSequence}
-use Rattle.text.proofs.Digits.{decimal-within}
-use Rattle.text.proofs.Layouts.{length-location, length-allele}
+use Rattle.text.proofs.Layouts.{length-allele}
 use Rattle.sha512.specs.Message.{sha512}
 use Rattle.sha512.specs.Parts.{begun, joined, fedAll, finished}
 use Rattle.sha512.proofs.Join.{parts-join}
 use Rattle.digest.specs.Identifier.{sha512t24u}
 use Rattle.digest.proofs.Encoding.{length-sha512t24u}
-use Rattle.identify.specs.Identifiers.{locationIdentifier, textOf, identifierOf}
+use Rattle.identify.specs.Identifiers.{textOf, identifierOf}
 
 abbrev pieces : List ℕ → List ℕ → List ℕ → List ℕ → List (List ℕ)
 pieces location a b c = beforeLocation ∷ location ∷ beforeSequence ∷ a ∷ b ∷ c ∷ behindSequence ∷ []
@@ -39,21 +37,9 @@ allele-hashed location a b c h =
     let long : length (alleleText location (a ++ (b ++ c))) < 2 ^ 64 = rw (length-allele location (a ++ (b ++ c)), length-append a (b ++ c), length-append b c) (omega arith) in
     parts-join (pieces location a b c) (subst (λ (l : List ℕ). length l < 2 ^ 64) (sym (pieces-join location a b c)) long) ∙ ap sha512 (pieces-join location a b c)
 
--- two numbers of 64 bits and a digest
-pub location-room : (start end n : ℕ) → start < 2 ^ 64 → end < 2 ^ 64 → n ≡ 32 → length (decimal end) + (length (decimal start) + (n + 97)) ≤ 169
-location-room start end n h g e = omega (arith, decimal-within start h, decimal-within end g)
-
-pub length-location-identifier : (start end : ℕ) (digest : List ℕ) → length (locationIdentifier start end digest) ≡ 42
-unfolding locationIdentifier
-length-location-identifier start end digest = rw (length-sha512t24u (locationText start end digest))
-
 pub length-allele-identifier : (form : Normal) (digest : List ℕ) → length (identifierOf form digest) ≡ 41
 unfolding identifierOf
 length-allele-identifier form digest = rw (length-sha512t24u (textOf form digest))
-
--- a location text as long as the code counts it
-pub location-long : (start end : ℕ) (digest : List ℕ) → length digest ≡ 32 → length (decimal start) + length (decimal end) + 129 ≡ length (locationText start end digest)
-location-long start end digest e = omega (arith, length-location start end digest)
 
 -- an allele text as long as the code counts it, and the room for its pieces in a tail that is lent
 module _ (r : List ℕ) (start end : ℕ) (x : List ℕ) (w : Stretches) (f : Fits r start end x w) (n : ℕ) (sum : n ≡ start - w .left + (w .to - w .from) + (w .right - end)) where

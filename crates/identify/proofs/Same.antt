@@ -12,7 +12,8 @@ use Rattle.normal.specs.Form.{Allele, Normal, altered, normal}
 use Rattle.normal.proofs.Laws.{normal-ordered, normal-inside, one-altered, one-form}
 use Rattle.text.specs.Layout.{locationText}
 use Rattle.text.proofs.Layouts.{allele-same}
-use Rattle.reading.specs.Accepted.{Digest, LocationText}
+use Rattle.words.specs.Vocabulary.{Digest}
+use Rattle.reading.specs.Accepted.{LocationText}
 use Rattle.reading.proofs.LocationTexts.{location-start, location-end}
 use Rattle.digest.specs.Identifier.{sha512t24u}
 use Rattle.digest.proofs.Encoding.{length-sha512t24u}

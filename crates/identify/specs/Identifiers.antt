@@ -1,4 +1,4 @@
--- Document 01, "Texts and identifiers": the identifier of a location, and the text and the identifier of an allele in its normal form.
+-- Document 01, "Texts and identifiers": the text and the identifier of an allele in its normal form.
 use Prim.Native.Nat.{ℕ}
 use mathlib.Core.Path.{_≡_}
 use mathlib.Core.List.{List, _++_}
@@ -6,10 +6,6 @@ use Rattle.stretch.specs.Ascii.{ascii}
 use Rattle.normal.specs.Form.{Normal}
 use Rattle.text.specs.Layout.{locationText, alleleText}
 use Rattle.digest.specs.Identifier.{sha512t24u}
-
--- 42 bytes, over the location text
-unfoldable pub locationIdentifier : ℕ → ℕ → List ℕ → List ℕ
-locationIdentifier start end digest = ascii "ga4gh:VSL." ++ sha512t24u (locationText start end digest)
 
 -- the text of a normal form, on a sequence of that digest: its location's digest, and its replacement
 unfoldable pub textOf : Normal → List ℕ → List ℕ

@@ -1,13 +1,13 @@
 // The text and the identifier of an allele, in its normal form.
 use super::hash::form_hash;
-use super::hash::location_digest;
 use digest::place_identifier;
+use forming::Located;
+use forming::clean;
+use forming::locate;
 use letters::check_digest_text;
-use normal::Located;
+use locations::location_digest;
 use normal::Stretches;
-use normal::clean;
 use normal::joined_length;
-use normal::locate;
 use refusal::OUTPUT_TOO_SHORT;
 use refusal::Outcome;
 use refusal::Written;
@@ -17,9 +17,10 @@ use text::write_allele;
 ghost use mathlib.Core.Path.{_≡_};
 ghost use mathlib.Core.List.{[]};
 ghost use lib.ListN.{length};
+ghost use Rattle.refusal.specs.Writes.{Says};
 ghost use Rattle.normal.specs.Stretches.{Fits, formIn};
 ghost use Rattle.identify.specs.Identifiers.{textOf, identifierOf};
-ghost use Rattle.identify.specs.Calls.{alleleAnswer, restAnswer, Says, SaysAllele, IdentifiesAllele};
+ghost use Rattle.identify.specs.Calls.{alleleAnswer, restAnswer, SaysAllele, IdentifiesAllele};
 
 const ALLELE_PREFIX: [u8; 9] = *b"ga4gh:VA.";
 

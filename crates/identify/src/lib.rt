@@ -1,11 +1,9 @@
-// Texts and identifiers of locations and alleles (document 01, "Texts and identifiers").
+// The text and the identifier of an allele in its normal form (document 01, "Texts and identifiers").
+// Those of a location are in crate `locations`, below it.
 //
-// specs/Identifiers.antt has the texts and identifiers, specs/Calls.antt what the calls promise.
+// specs/Identifiers.antt has the text and the identifier, specs/Calls.antt what the calls promise.
 mod allele;
 mod hash;
-mod location;
 
 pub use allele::allele_identifier;
 pub use allele::allele_text;
-pub use location::location_identifier;
-pub use location::location_text;

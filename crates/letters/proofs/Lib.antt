@@ -1,4 +1,5 @@
 pub mod Class
 pub mod Outside
 pub mod Ranges
+pub mod DigestText
 pub mod Promises

@@ -14,10 +14,11 @@ use Rattle.refusal.specs.declared.Refusal.{Refusal}
 use Rattle.refusal.specs.Verdict.{Ground, Verdict, accepted, refused, unless, verdict}
 use Rattle.normal.specs.Form.{Allele, Normal, normal}
 use Rattle.normal.specs.Stretches.{joined, stretchesOf}
-use Rattle.normal.specs.Calls.{formGrounds}
-use Rattle.normal.proofs.Answers.{clean-allele, length-joined}
 use Rattle.normal.proofs.Join.{stretches-fit, stretches-join}
+use Rattle.normal.proofs.Joined.{length-joined}
 use Rattle.normal.proofs.Laws.{normal-ordered, normal-inside}
+use Rattle.forming.specs.Calls.{formGrounds}
+use Rattle.forming.proofs.Answers.{clean-allele}
 use Rattle.text.specs.declared.Number.{Number}
 use Rattle.text.specs.declared.Number.the-variants.{Is, Absent}
 use Rattle.text.specs.Number.{numberOf}

@@ -10,11 +10,11 @@ use Rattle.stretch.proofs.Tail.{lent-tail}
 use Rattle.refusal.specs.declared.Refusal.{Refusal}
 use Rattle.normal.specs.declared.Kind.{Kind}
 use Rattle.normal.specs.declared.Stretches.{Stretches}
-use Rattle.normal.specs.declared.Located.the-variants.{Accepted, Refused}
 use Rattle.normal.specs.Form.{Normal}
 use Rattle.normal.specs.Stretches.{formIn}
-use Rattle.normal.specs.Calls.{locatedClean}
-use Rattle.normal.proofs.Answers.{clean-accepted, clean-refused, clean-form}
+use Rattle.forming.specs.declared.Located.the-variants.{Accepted, Refused}
+use Rattle.forming.specs.Calls.{locatedClean}
+use Rattle.forming.proofs.Answers.{clean-accepted, clean-refused, clean-form}
 use Rattle.saying.specs.Said.{lineFeed, unread, allele, said}
 use Rattle.lines.specs.Answers.{formReply, alleleReply, answerLine}
 use Rattle.lines.specs.Parts.{head, refusedLine, stop}

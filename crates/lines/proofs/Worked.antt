@@ -5,7 +5,7 @@ use Rattle.stretch.specs.Common.{lcp, lcs}
 use Rattle.stretch.specs.Same.{same}
 use Rattle.letters.specs.Letters.{residue, firstOutside}
 use Rattle.normal.specs.Form.{altered, shorter, within, ahead, behind, kindIn, kindOf, changedForm, normal}
-use Rattle.normal.specs.Calls.{formGrounds}
+use Rattle.forming.specs.Calls.{formGrounds}
 use Rattle.text.specs.Decimal.{decimalIn, enough, decimal}
 use Rattle.text.specs.Number.{valueFrom, value, numberOf}
 use Rattle.saying.specs.Cut.{parted}

@@ -1,11 +1,25 @@
--- Three stretches as one text: its first foreign byte.
-use Prim.Native.Nat.{ℕ, _+_, _<_, _≤_}
+-- Three stretches as one text: its length, and its first foreign byte.
+use Prim.Native.Nat.{ℕ, _+_, _-_, _<_, _≤_}
 use native.Mathlib.Omega.{arith}
 use mathlib.Core.Path.{_≡_, _∙_, sym, ap}
 use mathlib.Core.List.{List, _++_}
-use lib.ListN.{length}
+use lib.ListN.{length, length-append}
+use Rattle.stretch.specs.Part.{part}
+use Rattle.stretch.proofs.Interval.{length-part}
 use Rattle.letters.specs.Letters.{residue, foreign}
 use Rattle.letters.proofs.Outside.{foreign-le, foreign-none, firstOutside-past, firstOutside-within}
+use Rattle.normal.specs.declared.Stretches.{Stretches}
+use Rattle.normal.specs.Stretches.{Fits, joined}
+
+pub length-joined : (r : List ℕ) (start end : ℕ) (x : List ℕ) (w : Stretches) → Fits r start end x w
+    → start - w .left + (w .to - w .from) + (w .right - end) ≡ length (joined r start end x w)
+unfolding joined
+length-joined r start end x w f =
+    let one : length (part r (w .left) start) ≡ start - w .left = length-part r (w .left) start (f .before) (omega (arith, f .allele .ordered, f .allele .inside)) in
+    let two : length (part x (w .from) (w .to)) ≡ w .to - w .from = length-part x (w .from) (w .to) (f .ordered) (f .given) in
+    let three : length (part r end (w .right)) ≡ w .right - end = length-part r end (w .right) (f .after) (f .inside) in
+    sym (length-append (part r (w .left) start) (part x (w .from) (w .to) ++ part r end (w .right))
+    ∙ rw (length-append (part x (w .from) (w .to)) (part r end (w .right)), one, two, three) (omega arith))
 
 module _ (a b c : List ℕ) where
   pub foreign-first : foreign a < length a → foreign a ≡ foreign (a ++ (b ++ c))

@@ -1,10 +1,8 @@
-pub mod Answers
 pub mod Extended
 pub mod Flanks
 pub mod Join
 pub mod Joined
 pub mod Laws
-pub mod Promises
 pub mod Reach
 pub mod Rolled
 pub mod Spot

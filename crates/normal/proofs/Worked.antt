@@ -1,12 +1,9 @@
--- The worked alleles: each has the normal form that the table gives it, and none is turned away.
+-- The worked alleles: each has the normal form that the table gives it.
 use mathlib.Core.Path.{_≡_, refl}
 use mathlib.Core.List.{map}
 use Rattle.stretch.specs.Common.{lcp, lcs}
 use Rattle.stretch.specs.Same.{same}
-use Rattle.refusal.specs.Verdict.{Verdict, accepted, verdict}
-use Rattle.letters.specs.Letters.{residue, firstOutside}
 use Rattle.normal.specs.Form.{Normal, altered, shorter, within, ahead, behind, kindIn, kindOf, changedForm, normal}
-use Rattle.normal.specs.Calls.{formGrounds}
 use Rattle.normal.specs.Steps.{Justified, begun, lessSuffix, lessPrefix, rolled, rollLeft, rollRight, extended, rolledOut, settled, trimmed, justified, placed}
 use Rattle.normal.specs.Worked.{Case, cases, sourceCase}
 
@@ -16,16 +13,9 @@ formed c = normal (c .reference) (c .start) (c .end) (c .replacement)
 abbrev pub stepped : Case → Justified
 stepped c = justified (c .reference) (c .start) (c .end) (c .replacement)
 
-abbrev pub judged : Case → Verdict
-judged c = verdict (formGrounds (c .reference) (c .start) (c .end) (c .replacement))
-
 pub worked : map formed cases ≡ map (λ (c : Case). c .answer) cases
 unfolding lcp lcs same altered shorter within ahead behind kindIn kindOf changedForm normal
 worked = refl
-
-pub worked-accepted : map judged cases ≡ map (λ (c : Case). accepted) cases
-unfolding lcp lcs same altered shorter within ahead behind kindIn kindOf changedForm normal residue firstOutside formGrounds
-worked-accepted = refl
 
 -- the source's example, by the definition and by the source's own steps
 pub worked-source : formed sourceCase ≡ sourceCase .answer

@@ -1,5 +1,4 @@
 pub mod Form
 pub mod Stretches
-pub mod Calls
 pub mod Steps
 pub mod Worked

@@ -11,13 +11,14 @@ use Rattle.stretch.proofs.Interval.{length-part}
 use Rattle.refusal.specs.Limits.{sequenceLimit}
 use Rattle.letters.specs.Letters.{residue}
 use Rattle.text.specs.Layout.{beforeLocation, beforeSequence, behindSequence, alleleText}
+use Rattle.words.specs.declared.Walk.{Walk}
+use Rattle.words.specs.Vocabulary.{Word, Digest, Letters}
+use Rattle.words.specs.Walk.{Onward}
+use Rattle.words.proofs.Following.{Then, Done, Apart, Open, one-way, word-then, then-is, open-done, open-then}
+use Rattle.words.proofs.Vocabulary.{some-digest, no-letters, apart-letters, apart-digest}
+use Rattle.words.proofs.Reach.{Reach, reach-begun, reach-onward, reach-word, reach-all, reach-end, on-before, onward-length}
 use Rattle.reading.specs.declared.AlleleRead.the-variants.{Accepted, Refused}
-use Rattle.reading.specs.declared.Walk.{Walk}
-use Rattle.reading.specs.Accepted.{Digest, Letters, AlleleText, ReadsAllele, accepts-allele, refuses-allele}
-use Rattle.reading.specs.Walk.{Word, Onward}
-use Rattle.reading.proofs.Following.{Then, Done, Apart, Open, one-way, word-then, then-is, open-done, open-then}
-use Rattle.reading.proofs.Vocabulary.{some-digest, no-letters, apart-letters, apart-digest}
-use Rattle.reading.proofs.Reach.{Reach, reach-begun, reach-onward, reach-word, reach-all, reach-end, on-before, onward-length}
+use Rattle.reading.specs.Accepted.{AlleleText, ReadsAllele, accepts-allele, refuses-allele}
 
 -- from each word on
 abbrev pub FromClose : List ℕ → Type 0

@@ -1,10 +1,3 @@
-pub mod Fronts
-pub mod Onwards
-pub mod Readings
-pub mod Numerals
-pub mod Following
-pub mod Vocabulary
-pub mod Reach
 pub mod LocationTexts
 pub mod AlleleTexts
 pub mod Lies

@@ -12,13 +12,14 @@ use Rattle.text.specs.Decimal.{decimal}
 use Rattle.text.specs.Layout.{beforeEnd, beforeStart, beforeDigest, behindDigest, locationText}
 use Rattle.text.specs.Number.{value}
 use Rattle.text.proofs.Reading.{value-decimal, decimal-injective}
+use Rattle.words.specs.declared.Walk.{Walk}
+use Rattle.words.specs.Vocabulary.{Word, Digest, DecimalTo}
+use Rattle.words.specs.Walk.{Onward, Counts}
+use Rattle.words.proofs.Following.{Then, Done, Apart, Open, one-way, word-then, then-is, front-same, open-done, open-then}
+use Rattle.words.proofs.Vocabulary.{decimal-to, some-digest, apart-decimal, apart-digest}
+use Rattle.words.proofs.Reach.{Reach, reach-begun, reach-onward, reach-word, reach-all, reach-end, on-before, onward-length}
 use Rattle.reading.specs.declared.LocationRead.the-variants.{Accepted, Refused}
-use Rattle.reading.specs.declared.Walk.{Walk}
-use Rattle.reading.specs.Accepted.{Digest, LocationText, ReadsLocation, accepts, refuses}
-use Rattle.reading.specs.Walk.{Word, DecimalTo, Onward, Counts}
-use Rattle.reading.proofs.Following.{Then, Done, Apart, Open, one-way, word-then, then-is, front-same, open-done, open-then}
-use Rattle.reading.proofs.Vocabulary.{decimal-to, some-digest, apart-decimal, apart-digest}
-use Rattle.reading.proofs.Reach.{Reach, reach-begun, reach-onward, reach-word, reach-all, reach-end, on-before, onward-length}
+use Rattle.reading.specs.Accepted.{LocationText, ReadsLocation, accepts, refuses}
 
 -- from each word on; from the start on by the end
 abbrev pub FromClose : List ℕ → Type 0

@@ -9,14 +9,15 @@ use Rattle.refusal.specs.Limits.{referenceLimit, sequenceLimit}
 use Rattle.refusal.specs.declared.Refusal.{Refusal}
 use Rattle.text.specs.Decimal.{decimal}
 use Rattle.text.specs.Layout.{beforeEnd, beforeStart, beforeDigest, behindDigest, locationText, beforeLocation, beforeSequence, behindSequence, alleleText}
+use Rattle.words.specs.Vocabulary.{Digest, Letters}
+use Rattle.words.proofs.Following.{longest-once}
 use Rattle.reading.specs.declared.AlleleParts.{AlleleParts}
 use Rattle.reading.specs.declared.AlleleRead.{AlleleRead}
 use Rattle.reading.specs.declared.AlleleRead.the-variants.{Accepted as AlleleAccepted, Refused as AlleleRefused}
 use Rattle.reading.specs.declared.LocationParts.{LocationParts}
 use Rattle.reading.specs.declared.LocationRead.{LocationRead}
 use Rattle.reading.specs.declared.LocationRead.the-variants.{Accepted, Refused}
-use Rattle.reading.specs.Accepted.{Digest, Letters, LocationText, AlleleText, ReadsLocation, accepts, refuses, ReadsAllele, accepts-allele, refuses-allele, HandsBack, hands, nothing}
-use Rattle.reading.proofs.Following.{longest-once}
+use Rattle.reading.specs.Accepted.{LocationText, AlleleText, ReadsLocation, accepts, refuses, ReadsAllele, accepts-allele, refuses-allele, HandsBack, hands, nothing}
 use Rattle.reading.proofs.Lies.{Lies, lies-between}
 use Rattle.reading.proofs.LocationTexts.{location-start, location-end, location-digest}
 use Rattle.reading.proofs.AlleleTexts.{allele-location, allele-sequence}

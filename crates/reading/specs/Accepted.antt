@@ -1,28 +1,17 @@
 -- Document 01, "Texts and identifiers": the texts that are accepted, and what reading one answers.
 use Prim.Native.Nat.{ℕ, _+_, _≤_}
 use mathlib.Core.Path.{_≡_}
-use mathlib.Core.Bool.{true}
 use mathlib.Core.List.{List, []}
 use lib.ListN.{length}
 use Rattle.refusal.specs.Limits.{referenceLimit, sequenceLimit}
-use Rattle.letters.specs.Letters.{residue, base64url, every}
 use Rattle.text.specs.Decimal.{decimal}
 use Rattle.text.specs.Layout.{beforeEnd, beforeStart, beforeDigest, locationText, beforeLocation, beforeSequence, alleleText}
+use Rattle.words.specs.Prefix.{Refuses}
+use Rattle.words.specs.Vocabulary.{Digest, Letters}
 use Rattle.reading.specs.declared.AlleleRead.{AlleleRead}
 use Rattle.reading.specs.declared.AlleleRead.the-variants.{Accepted as AlleleAccepted, Refused as AlleleRefused}
 use Rattle.reading.specs.declared.LocationRead.{LocationRead}
 use Rattle.reading.specs.declared.LocationRead.the-variants.{Accepted, Refused}
-use Rattle.reading.specs.Prefix.{Refuses}
-
--- 32 base64url characters
-pub record Digest (s : List ℕ) : Type 0 where
-  pub long : length s ≡ 32
-  pub characters : every base64url s ≡ true
-
--- at most so many letters
-pub record Letters (most : ℕ) (s : List ℕ) : Type 0 where
-  pub few : length s ≤ most
-  pub letters : every residue s ≡ true
 
 -- T at most E at most 1,000,000,000, and D
 pub record LocationText (text : List ℕ) : Type 0 where

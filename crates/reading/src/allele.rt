@@ -1,17 +1,17 @@
 // Allele texts.
 use super::AlleleParts;
 use super::AlleleRead;
-use super::Walk;
-use super::words::DIGEST_LENGTH;
-use super::words::past_digest;
-use super::words::past_letters;
-use super::words::past_word;
 use refusal::SEQUENCE_LIMIT;
 use refusal::TEXT_NOT_ACCEPTED;
 use refusal::refuse;
 use text::BEFORE_LOCATION;
 use text::BEFORE_SEQUENCE;
 use text::BEHIND_SEQUENCE;
+use words::DIGEST_LENGTH;
+use words::Walk;
+use words::past_digest;
+use words::past_letters;
+use words::past_word;
 ghost use Rattle.reading.specs.Accepted.{AlleleText, ReadsAllele, HandsBack};
 
 // Where the parts of an allele text lie.

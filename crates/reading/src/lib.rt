@@ -1,10 +1,9 @@
-// Texts read back (document 01, "Texts and identifiers"), and refusal 8.
+// The location text and the allele text read back (document 01, "Texts and identifiers"), each as a chain
+// of the words of `words`.
 //
-// specs/Prefix.antt has the longest prefix that begins some accepted text, specs/Accepted.antt the
-// texts that are accepted and what reading them answers, specs/Walk.antt how a text is read.
+// specs/Accepted.antt has the texts that are accepted and what reading them answers.
 mod allele;
 mod location;
-mod words;
 
 pub use allele::location_of;
 pub use allele::read_allele;
@@ -34,10 +33,4 @@ pub struct AlleleParts {
 pub enum AlleleRead {
     Accepted(AlleleParts),
     Refused(refusal::Refusal),
-}
-
-// How far a text is read, and whether it may go on from there.
-pub struct Walk {
-    pub at: usize,
-    pub on: bool,
 }

@@ -1,11 +1,6 @@
 // Location texts.
 use super::LocationParts;
 use super::LocationRead;
-use super::Walk;
-use super::words::DIGEST_LENGTH;
-use super::words::past_decimal;
-use super::words::past_digest;
-use super::words::past_word;
 use refusal::REFERENCE_LIMIT;
 use refusal::TEXT_NOT_ACCEPTED;
 use refusal::refuse;
@@ -13,6 +8,11 @@ use text::BEFORE_DIGEST;
 use text::BEFORE_END;
 use text::BEFORE_START;
 use text::BEHIND_DIGEST;
+use words::DIGEST_LENGTH;
+use words::Walk;
+use words::past_decimal;
+use words::past_digest;
+use words::past_word;
 ghost use Rattle.reading.specs.Accepted.{LocationText, ReadsLocation, HandsBack};
 
 // The numbers of a location text, and where its digest lies.

@@ -6,7 +6,7 @@ use mathlib.Core.List.{List, [], _∷_, _++_, append-assoc, append-nil}
 use lib.ListN.{length, take, drop}
 use Rattle.stretch.specs.Over.{over}
 use Rattle.stretch.proofs.Over.{over-next, over-tail}
-use Rattle.normal.specs.declared.Form.{Form}
+use Rattle.forming.specs.declared.Form.{Form}
 use Rattle.image.specs.Numbers.{numbers, put, bytes}
 use Rattle.image.specs.Fields.{headerSize, entrySize, journalPlace, poolPlace, issued, issuedPlace, journalAt, journalCount, journalCountPlace, poolAt, poolUsed, poolUsedPlace, headerOf, recordAt, recordOf, active}
 use Rattle.image.proofs.Patched.{length-numbers}

@@ -1,4 +1,5 @@
 // How a normal form is found among the records. Its replacement lies in three stretches.
+use forming::Form;
 use image::END;
 use image::ISSUED;
 use image::LENGTH;
@@ -7,7 +8,6 @@ use image::POOL_AT;
 use image::STATUS;
 use image::read_number;
 use image::record_at;
-use normal::Form;
 use stretch::equal;
 ghost use mathlib.Core.Path.{_≡_};
 ghost use mathlib.Core.Bool.{true};

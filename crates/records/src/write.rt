@@ -1,4 +1,5 @@
 // The writes that the changes are made of.
+use forming::Form;
 use image::ACTIVE;
 use image::ENTRY_SIZE;
 use image::ISSUED;
@@ -10,7 +11,6 @@ use image::STATUS;
 use image::put_number;
 use image::read_number;
 use image::record_at;
-use normal::Form;
 use stretch::put_three;
 ghost use mathlib.Core.Path.{_≡_};
 ghost use mathlib.Core.List.{[], _∷_, _++_};

@@ -2,3 +2,4 @@ pub mod Sum
 pub mod Unique
 pub mod Verdict
 pub mod Writes
+pub mod Says

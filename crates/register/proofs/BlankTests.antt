@@ -1,19 +1,18 @@
 -- The answers of the tests of a blank image, one behind the other, and what an accepted one tells of its arguments.
 use Prim.Native.Nat.{ℕ, _≤_}
-use native.Mathlib.Omega.{arith}
 use mathlib.Core.Path.{_≡_}
 use mathlib.Core.Bool.{true, false}
 use mathlib.Core.List.{List, [], _∷_, _++_}
 use lib.Dec.{ltb}
 use lib.ListN.{length}
-use borrow.Author.Tests.{eqb-true, ltb-false, not-false}
+use borrow.Author.Tests.{ltb-false}
 use Rattle.refusal.specs.Limits.{referenceLimit}
 use Rattle.refusal.specs.declared.Refusal.{Refusal}
 use Rattle.refusal.specs.declared.Outcome.the-variants.{Accepted, Refused}
 use Rattle.refusal.specs.Verdict.{ground, accepted, verdict}
 use Rattle.refusal.proofs.Verdict.{none-holds, verdict-first, verdict-then, verdict-fewer, verdict-later, outcome-accepted, outcome-refused}
-use Rattle.letters.specs.Letters.{base64url, every, firstOutside, digestTextGrounds, digestTextAnswer}
-use Rattle.letters.proofs.Outside.{firstOutside-le, firstOutside-all}
+use Rattle.letters.specs.Letters.{base64url, every, digestTextGrounds, digestTextAnswer}
+use Rattle.letters.proofs.DigestText.{digest-long, digest-all}
 use Rattle.image.specs.Fields.{countLimit, poolLimit, imageSize}
 use Rattle.register.specs.Calls.{capacityGrounds, blankGrounds}
 use Rattle.register.specs.Inner.{capacityAnswer, blankAnswer}
@@ -42,7 +41,7 @@ pub record Blankable (room n : ℕ) (digest : List ℕ) (records journal pool : 
 
 pub blankable : (room n : ℕ) (digest : List ℕ) (records journal pool : ℕ) → verdict (blankGrounds room n digest records journal pool) ≡ accepted
     → Blankable room n digest records journal pool
-unfolding blankGrounds digestTextGrounds
+unfolding blankGrounds
 blankable room n digest records journal pool v =
     let one = ground (ltb referenceLimit n) 1 0 ∷ [] in
     let seven = digestTextGrounds digest in
@@ -50,11 +49,10 @@ blankable room n digest records journal pool v =
     let rest = verdict-later one (seven ++ nine) v in
     let text = verdict-fewer seven nine rest in
     let last = verdict-later seven nine rest in
-    let outside = ltb-false (firstOutside base64url digest) (length digest) (none-holds seven text 1) in
     record {
       reference = ltb-false referenceLimit n (none-holds one (verdict-fewer one (seven ++ nine) v) 0);
-      long = eqb-true (length digest) 32 (not-false _ (none-holds seven text 0));
-      characters = firstOutside-all base64url digest (omega (arith, outside, firstOutside-le base64url digest));
+      long = digest-long digest text;
+      characters = digest-all digest text;
       records-limit = ltb-false countLimit records (none-holds nine last 0);
       journal-limit = ltb-false countLimit journal (none-holds nine last 1);
       pool-limit = ltb-false poolLimit pool (none-holds nine last 2);

@@ -1,7 +1,8 @@
 -- The tests, and 6 behind them.
 use mathlib.Core.Path.{_∙_, sym}
 use borrow.Author.Needs.{needs}
-use Rattle.identify.proofs.Answers.{says-then, says-nothing, allele-accepted, allele-digest, allele-fits, allele-form, allele-refused}
+use Rattle.refusal.proofs.Says.{says-then, says-nothing}
+use Rattle.identify.proofs.Answers.{allele-accepted, allele-digest, allele-fits, allele-form, allele-refused}
 use Rattle.identify.proofs.allele.allele_text.Statement.{statement}
 use Rattle.identify.proofs.allele.allele_text.Tie as tie
 

@@ -1,7 +1,7 @@
 -- 1 to 4, and 7 and 5 behind them.
 use mathlib.Core.Path.{_∙_, sym}
 use borrow.Author.Needs.{needs}
-use Rattle.normal.proofs.Answers.{located-fits}
+use Rattle.forming.proofs.Answers.{located-fits}
 use Rattle.identify.proofs.Answers.{allele-then, allele-unfound}
 use Rattle.identify.proofs.allele.check_allele.Statement.{statement}
 use Rattle.identify.proofs.allele.check_allele.Tie as tie

@@ -3,10 +3,10 @@ use mathlib.Core.Path.{_≡_, _∙_, sym}
 use lib.ListN.{length}
 use borrow.Author.Needs.{needs}
 use Rattle.refusal.proofs.Sum.{place-within}
+use Rattle.refusal.proofs.Says.{says-short, says-tail}
 use Rattle.normal.specs.Stretches.{joined}
 use Rattle.identify.specs.Identifiers.{textOf}
 use Rattle.identify.proofs.Hashing.{allele-long, allele-room}
-use Rattle.identify.proofs.Answers.{says-short, says-tail}
 use Rattle.identify.proofs.allele.write_text.Statement.{statement}
 use Rattle.identify.proofs.allele.write_text.Tie as tie
 

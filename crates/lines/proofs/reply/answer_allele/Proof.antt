@@ -1,7 +1,7 @@
 -- By what the normaliser answers.
 use mathlib.Core.Path.{_∙_, sym}
 use borrow.Author.Needs.{needs}
-use Rattle.normal.proofs.Answers.{clean-fits}
+use Rattle.forming.proofs.Answers.{clean-fits}
 use Rattle.lines.proofs.Laying.{puts-as}
 use Rattle.lines.proofs.Replies.{accepted-line, refused-line}
 use Rattle.lines.proofs.reply.answer_allele.Statement.{statement}

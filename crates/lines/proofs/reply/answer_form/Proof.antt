@@ -4,7 +4,7 @@ use mathlib.Core.Path.{_∙_, sym, ap}
 use mathlib.Core.List.{List, [], _∷_, _++_}
 use borrow.Author.Needs.{needs}
 use Rattle.stretch.proofs.Wrote.{wrote-front}
-use Rattle.normal.proofs.Answers.{length-joined}
+use Rattle.normal.proofs.Joined.{length-joined}
 use Rattle.normal.specs.Stretches.{joined}
 use Rattle.lines.proofs.Laying.{puts-as}
 use Rattle.lines.proofs.Replies.{form-line}

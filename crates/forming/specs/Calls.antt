@@ -1,0 +1,69 @@
+-- What the calls on normal forms promise: the grounds of each in document 01's order, the answer, and what is left in what was lent.
+use Prim.Native.Nat.{ℕ}
+use mathlib.Core.Path.{_≡_}
+use mathlib.Core.List.{List, [], _∷_, _++_}
+use lib.Dec.{ltb}
+use lib.ListN.{length}
+use Rattle.stretch.specs.Over.{over}
+use Rattle.refusal.specs.Limits.{referenceLimit, replacementLimit}
+use Rattle.refusal.specs.Verdict.{Ground, ground, Verdict, verdict, tell, leave}
+use Rattle.refusal.specs.Writes.{outputTooShort}
+use Rattle.letters.specs.Letters.{foreign}
+use Rattle.normal.specs.declared.Stretches.{Stretches}
+use Rattle.normal.specs.Form.{Normal, normal}
+use Rattle.normal.specs.Stretches.{joined, stretchesOf, formIn}
+use Rattle.forming.specs.declared.Form.{Form}
+use Rattle.forming.specs.declared.Located.{Located}
+use Rattle.forming.specs.declared.Located.the-variants.{Accepted, Refused}
+use Rattle.forming.specs.declared.Normalised.{Normalised}
+use Rattle.forming.specs.declared.Normalised.the-variants.{Accepted as Formed, Refused as Unformed}
+
+-- an allele as given: 1, 2, 3, 4
+abbrev pub givenGrounds : List ℕ → ℕ → ℕ → List ℕ → List Ground
+givenGrounds r start end x =
+    ground (ltb referenceLimit (length r)) 1 0
+    ∷ ground (ltb replacementLimit (length x)) 1 1
+    ∷ ground (ltb end start) 2 0
+    ∷ ground (ltb (length r) end) 3 (length r)
+    ∷ ground (ltb (foreign x) (length x)) 4 (foreign x)
+    ∷ []
+
+-- 5: a foreign byte in the normal replacement
+abbrev pub foreignNormal : List ℕ → Ground
+foreignNormal t = ground (ltb (foreign t) (length t)) 5 (foreign t)
+
+-- 1, 2, 3, 4, 5
+unfoldable pub formGrounds : List ℕ → ℕ → ℕ → List ℕ → List Ground
+formGrounds r start end x = givenGrounds r start end x ++ (foreignNormal (normal r start end x .replacement) ∷ [])
+
+-- the normal form: 1, 2, 3, 4, 5, 6
+unfoldable pub normalGrounds : List ℕ → ℕ → ℕ → List ℕ → ℕ → ℕ → List Ground
+normalGrounds r start end x room place =
+    formGrounds r start end x ++ (outputTooShort room place (length (normal r start end x .replacement)) ∷ [])
+
+-- where a normal form lies, by 1 to 4 alone, and by 1 to 5
+abbrev pub located : List ℕ → ℕ → ℕ → List ℕ → Located
+located r start end x = tell Refused (verdict (givenGrounds r start end x)) (Accepted (stretchesOf r start end x))
+
+abbrev pub locatedClean : List ℕ → ℕ → ℕ → List ℕ → Located
+locatedClean r start end x = tell Refused (verdict (formGrounds r start end x)) (Accepted (stretchesOf r start end x))
+
+-- 5 alone, of stretches that are found
+abbrev pub cleanly : List ℕ → ℕ → ℕ → List ℕ → Stretches → Located
+cleanly r start end x w = tell Refused (verdict (foreignNormal (joined r start end x w) ∷ [])) (Accepted w)
+
+-- a normal form's numbers, as the call answers them
+abbrev pub told : Normal → Form
+told f = record { kind = f .kind; start = f .start; end = f .end; length = length (f .replacement) }
+
+-- the form is answered and its replacement stands in the buffer from the place on, or the buffer is as it was
+pub record Forms (v : Verdict) (f : Normal) (out : List ℕ) (place : ℕ) (answer : Normalised) (left : List ℕ) : Type 0 where
+  pub answers : answer ≡ tell Unformed v (Formed (told f))
+  pub leaves : left ≡ leave v out (over out place (f .replacement))
+
+-- 6 alone, of stretches that are found
+abbrev pub Lays : List ℕ → ℕ → ℕ → List ℕ → Stretches → List ℕ → ℕ → Normalised → List ℕ → Type 0
+Lays r start end x w out place = Forms (verdict (outputTooShort (length out) place (length (joined r start end x w)) ∷ [])) (formIn r start end x w) out place
+
+abbrev pub Normalises : List ℕ → ℕ → ℕ → List ℕ → List ℕ → ℕ → Normalised → List ℕ → Type 0
+Normalises r start end x out place = Forms (verdict (normalGrounds r start end x (length out) place)) (normal r start end x) out place

@@ -1,0 +1,27 @@
+// The calls for a normal form (document 01, "The normal form"): an allele is tested, formed and written.
+//
+// specs/Calls.antt has what they promise.
+mod call;
+
+pub use call::clean;
+pub use call::locate;
+pub use call::locate_clean;
+pub use call::normal_form;
+
+// A normal form, with the length of its replacement.
+pub struct Form {
+    pub kind: normal::Kind,
+    pub start: u64,
+    pub end: u64,
+    pub length: u64,
+}
+
+pub enum Normalised {
+    Accepted(Form),
+    Refused(refusal::Refusal),
+}
+
+pub enum Located {
+    Accepted(normal::Stretches),
+    Refused(refusal::Refusal),
+}

@@ -1,0 +1,24 @@
+-- How long a location's text and its identifier are, and the longest text.
+use Prim.Native.Nat.{ℕ, _+_, _^_, _<_, _≤_}
+use native.Mathlib.Omega.{arith}
+use mathlib.Core.Path.{_≡_}
+use mathlib.Core.List.{List}
+use lib.ListN.{length}
+use Rattle.text.specs.Decimal.{decimal}
+use Rattle.text.specs.Layout.{locationText}
+use Rattle.text.proofs.Digits.{decimal-within}
+use Rattle.text.proofs.Layouts.{length-location}
+use Rattle.digest.proofs.Encoding.{length-sha512t24u}
+use Rattle.locations.specs.Identifier.{locationIdentifier}
+
+-- two numbers of 64 bits and a digest
+pub location-room : (start end n : ℕ) → start < 2 ^ 64 → end < 2 ^ 64 → n ≡ 32 → length (decimal end) + (length (decimal start) + (n + 97)) ≤ 169
+location-room start end n h g e = omega (arith, decimal-within start h, decimal-within end g)
+
+pub length-location-identifier : (start end : ℕ) (digest : List ℕ) → length (locationIdentifier start end digest) ≡ 42
+unfolding locationIdentifier
+length-location-identifier start end digest = rw (length-sha512t24u (locationText start end digest))
+
+-- a location text as long as the code counts it
+pub location-long : (start end : ℕ) (digest : List ℕ) → length digest ≡ 32 → length (decimal start) + length (decimal end) + 129 ≡ length (locationText start end digest)
+location-long start end digest e = omega (arith, length-location start end digest)

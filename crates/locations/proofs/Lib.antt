@@ -1,0 +1,4 @@
+pub mod Lengths
+pub mod Answers
+pub mod Promises
+pub mod Back

@@ -1,0 +1,35 @@
+-- What the calls on a location's text and identifier promise: the grounds of each in document 01's order, and what is written.
+use Prim.Native.Nat.{ℕ}
+use mathlib.Core.List.{List, [], _∷_, _++_}
+use lib.Dec.{ltb}
+use Rattle.refusal.specs.Limits.{referenceLimit}
+use Rattle.refusal.specs.Verdict.{Ground, ground, verdict, tell}
+use Rattle.refusal.specs.Writes.{Says}
+use Rattle.refusal.specs.declared.Outcome.{Outcome}
+use Rattle.refusal.specs.declared.Outcome.the-variants.{Accepted, Refused}
+use Rattle.refusal.specs.declared.Written.{Written}
+use Rattle.letters.specs.Letters.{digestTextGrounds}
+use Rattle.text.specs.Layout.{locationText}
+use Rattle.locations.specs.Identifier.{locationIdentifier}
+
+-- an interval on a reference of length n: 1, 2, 3
+abbrev pub intervalGrounds : ℕ → ℕ → ℕ → List Ground
+intervalGrounds n start end =
+    ground (ltb referenceLimit n) 1 0
+    ∷ ground (ltb end start) 2 0
+    ∷ ground (ltb n end) 3 n
+    ∷ []
+
+-- a location: 1, 2, 3, 7
+unfoldable pub locationGrounds : ℕ → ℕ → ℕ → List ℕ → List Ground
+locationGrounds n start end digest = intervalGrounds n start end ++ digestTextGrounds digest
+
+abbrev pub SaysLocation : ℕ → ℕ → ℕ → List ℕ → List ℕ → ℕ → Written → List ℕ → Type 0
+SaysLocation n start end digest = Says (locationGrounds n start end digest) (locationText start end digest)
+
+abbrev pub IdentifiesLocation : ℕ → ℕ → ℕ → List ℕ → List ℕ → ℕ → Written → List ℕ → Type 0
+IdentifiesLocation n start end digest = Says (locationGrounds n start end digest) (locationIdentifier start end digest)
+
+-- what the tests before the room answer
+unfoldable pub locationAnswer : ℕ → ℕ → ℕ → List ℕ → Outcome
+locationAnswer n start end digest = tell Refused (verdict (locationGrounds n start end digest)) Accepted

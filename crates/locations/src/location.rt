@@ -1,0 +1,106 @@
+// The text and the identifier of a location on a reference of so many residues.
+use super::hash::location_hash;
+use digest::place_identifier;
+use letters::check_digest_text;
+use refusal::END_ABOVE_REFERENCE;
+use refusal::OUTPUT_TOO_SHORT;
+use refusal::OVER_LIMIT;
+use refusal::Outcome;
+use refusal::REFERENCE_LIMIT;
+use refusal::START_ABOVE_END;
+use refusal::Written;
+use refusal::refuse;
+use refusal::sum_exceeds;
+use text::decimal_length;
+use text::write_location;
+ghost use mathlib.Core.Path.{_≡_};
+ghost use mathlib.Core.List.{[]};
+ghost use lib.ListN.{length};
+ghost use Rattle.refusal.specs.Writes.{Says};
+ghost use Rattle.text.specs.Layout.{locationText};
+ghost use Rattle.locations.specs.Identifier.{locationIdentifier};
+ghost use Rattle.locations.specs.Calls.{locationAnswer, SaysLocation, IdentifiesLocation};
+
+const LOCATION_PREFIX: [u8; 10] = *b"ga4gh:VSL.";
+
+// The prefix and 32 characters.
+const IDENTIFIER_LENGTH: u64 = 42;
+
+// The bytes of a location text around its numbers: its words, and the sequence's digest.
+const AROUND_NUMBERS: usize = 129;
+
+// 1, 2, 3, 7.
+fn check_location(residues: u64, start: u64, end: u64, digest: &[u8]) -> Outcome
+    ensures { λ r. ⌜ r ≡ locationAnswer residues start end (now (digest .entry)) ⌝ }
+{
+    if REFERENCE_LIMIT < residues {
+        return Outcome::Refused(refuse(OVER_LIMIT, 0));
+    }
+    if end < start {
+        return Outcome::Refused(refuse(START_ABOVE_END, 0));
+    }
+    if residues < end {
+        return Outcome::Refused(refuse(END_ABOVE_REFERENCE, residues));
+    }
+    check_digest_text(digest)
+}
+
+// 6, and the text.
+fn write_text(start: u64, end: u64, digest: &[u8], out: &mut [u8], place: u64) -> Written
+    requires { ⌜ length (now digest) ≡ 32 ⌝ }
+    ensures { λ r. ⌜ Says [] (locationText start end (now (digest .entry))) (now (out .entry)) place r (now (out .exit)) ⌝ }
+{
+    let length = (decimal_length(start) + decimal_length(end) + AROUND_NUMBERS) as u64;
+    if sum_exceeds(place, length, out.len() as u64) {
+        return Written::Refused(refuse(OUTPUT_TOO_SHORT, length));
+    }
+    let at = place as usize;
+    write_location(&mut out[at..], start, end, digest);
+    Written::Bytes(length)
+}
+
+// 6, and the identifier.
+fn write_identifier(start: u64, end: u64, digest: &[u8], out: &mut [u8], place: u64) -> Written
+    requires { ⌜ length (now digest) ≡ 32 ⌝ }
+    ensures { λ r. ⌜ Says [] (locationIdentifier start end (now (digest .entry))) (now (out .entry)) place r (now (out .exit)) ⌝ }
+{
+    if sum_exceeds(place, IDENTIFIER_LENGTH, out.len() as u64) {
+        return Written::Refused(refuse(OUTPUT_TOO_SHORT, IDENTIFIER_LENGTH));
+    }
+    let hash = location_hash(start, end, digest);
+    place_identifier(out, place, &LOCATION_PREFIX, &hash)
+}
+
+// Writes the location text into `out` from `place` on.
+pub fn location_text(
+    residues: u64,
+    start: u64,
+    end: u64,
+    digest: &[u8],
+    out: &mut [u8],
+    place: u64,
+) -> Written
+    ensures { λ r. ⌜ SaysLocation residues start end (now (digest .entry)) (now (out .entry)) place r (now (out .exit)) ⌝ }
+{
+    match check_location(residues, start, end, digest) {
+        Outcome::Accepted => write_text(start, end, digest, out, place),
+        Outcome::Refused(why) => Written::Refused(why),
+    }
+}
+
+// Writes the location's identifier into `out` from `place` on.
+pub fn location_identifier(
+    residues: u64,
+    start: u64,
+    end: u64,
+    digest: &[u8],
+    out: &mut [u8],
+    place: u64,
+) -> Written
+    ensures { λ r. ⌜ IdentifiesLocation residues start end (now (digest .entry)) (now (out .entry)) place r (now (out .exit)) ⌝ }
+{
+    match check_location(residues, start, end, digest) {
+        Outcome::Accepted => write_identifier(start, end, digest, out, place),
+        Outcome::Refused(why) => Written::Refused(why),
+    }
+}

@@ -1,0 +1,72 @@
+-- The promise of a call that writes where there is room, 6 behind its other grounds: what an accepted one tells, how it is met, and that it is unique.
+use Prim.Native.Nat.{ℕ, _+_, _-_, _≤_}
+use native.Mathlib.Omega.{arith}
+use mathlib.Core.Path.{_≡_, refl}
+use mathlib.Core.Bool.{true, false}
+use mathlib.Core.List.{List, [], _∷_, _++_}
+use lib.Dec.{ltb}
+use lib.ListN.{length, take, drop}
+use borrow.Author.Tests.{ltb-false}
+use Rattle.stretch.specs.Over.{over}
+use Rattle.stretch.specs.Part.{part}
+use Rattle.stretch.proofs.Over.{over-tail-front, part-over}
+use Rattle.refusal.specs.declared.Refusal.{Refusal}
+use Rattle.refusal.specs.declared.Written.{Written}
+use Rattle.refusal.specs.declared.Written.the-variants.{Bytes, Refused}
+use Rattle.refusal.specs.Verdict.{Ground, Verdict, accepted, refused, verdict, tell}
+use Rattle.refusal.specs.Writes.{outputTooShort, Writes, Says}
+use Rattle.refusal.proofs.Verdict.{none-holds, verdict-first, verdict-then, verdict-fewer, verdict-later}
+use Rattle.refusal.proofs.Writes.{writes-nothing, writes-all, writes-as, writes-once}
+
+-- what an accepted write tells: the grounds, the length, the bytes
+written-bytes : (v : Verdict) (n k : ℕ) → Bytes k ≡ tell Refused v (Bytes n) → (v ≡ accepted) × (k ≡ n)
+written-bytes accepted n k h = (refl, cc)
+written-bytes (refused r) n k h = (cc, cc)
+
+pub record Said (gs : List Ground) (text out : List ℕ) (place k : ℕ) (left : List ℕ) : Type 0 where
+  pub grounds : verdict gs ≡ accepted
+  pub stands : part left place (place + k) ≡ text
+
+pub says-said : (gs : List Ground) (text out : List ℕ) (place k : ℕ) (left : List ℕ) → Says gs text out place (Bytes k) left → Said gs text out place k left
+unfolding Says
+says-said gs text out place k left p =
+    let six = outputTooShort (length out) place (length text) ∷ [] in
+    let t = written-bytes (verdict (gs ++ six)) (length text) k (p .answers) in
+    let room : place + length text ≤ length out = ltb-false (length out) (place + length text) (none-holds six (verdict-later gs six (t .0)) 0) in
+    record { grounds = verdict-fewer gs six (t .0); stands = rw (p .leaves, t .0) (part-over out place text k (omega arith) (t .1)) }
+
+-- 6 behind other grounds
+module _ (gs : List Ground) (text out : List ℕ) (place : ℕ) where
+  pub says-then : (answer : Written) (left : List ℕ) → verdict gs ≡ accepted → Says [] text out place answer left → Says gs text out place answer left
+  unfolding Says
+  says-then answer left v p = writes-as _ text out place _ text answer left (verdict-then gs (outputTooShort (length out) place (length text) ∷ []) v) refl p
+
+  pub says-nothing : (why : Refusal) → verdict gs ≡ refused why → Says gs text out place (Refused why) out
+  unfolding Says
+  says-nothing why v = writes-nothing _ text out place why (verdict-first gs (outputTooShort (length out) place (length text) ∷ []) why v)
+
+  pub says-once : (a₁ a₂ : Written) (l₁ l₂ : List ℕ) → Says gs text out place a₁ l₁ → Says gs text out place a₂ l₂ → (a₁ ≡ a₂) × (l₁ ≡ l₂)
+  unfolding Says
+  says-once a₁ a₂ l₁ l₂ p q = writes-once _ text out place a₁ a₂ l₁ l₂ p q
+
+-- 6 alone, by the length that the code finds
+module _ (text out : List ℕ) (place n : ℕ) (long : n ≡ length text) where
+  pub says-short : (answer : Written) → answer ≡ Refused (record { number = 6; value = n }) → ltb (length out) (place + n) ≡ true → Says [] text out place answer out
+  unfolding Says
+  says-short answer e t =
+      let v : ltb (length out) (place + length text) ≡ true = rw long at t in
+      rw e (writes-nothing _ text out place (record { number = 6; value = n }) (rw (v, long)))
+
+  pub says-as : (answer : Written) (left : List ℕ) → ltb (length out) (place + n) ≡ false → Writes accepted text out place answer left → Says [] text out place answer left
+  unfolding Says
+  says-as answer left t p =
+      let v : ltb (length out) (place + length text) ≡ false = rw long at t in
+      writes-as _ text out place accepted text answer left (rw v) refl p
+
+  -- the text at the front of a tail that was lent and comes back
+  pub says-tail : (tail : List ℕ) → ltb (length out) (place + n) ≡ false → tail ≡ over (take (length out - place) (drop place out)) 0 text
+      → Says [] text out place (Bytes n) (take place out ++ (tail ++ drop (length out - place) (drop place out)))
+  says-tail tail t e =
+      let room : place + length text ≤ length out = omega (arith, long, ltb-false (length out) (place + n) t) in
+      says-as (Bytes n) (take place out ++ (tail ++ drop (length out - place) (drop place out))) t
+      (writes-all accepted text out place n _ refl long (rw e (over-tail-front out place text room)))

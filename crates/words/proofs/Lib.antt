@@ -1,0 +1,8 @@
+pub mod Fronts
+pub mod Onwards
+pub mod Readings
+pub mod Numerals
+pub mod Following
+pub mod Vocabulary
+pub mod Reach
+pub mod Promises

@@ -1,0 +1,66 @@
+-- Kinds of words: some word of each, and that they are apart from what follows them, by their length or by the byte that follows.
+use Prim.Native.Nat.{ℕ, _+_, _<_, _≤_}
+use native.Mathlib.Omega.{arith}
+use mathlib.Core.Path.{_≡_, refl, _∙_, sym, ap}
+use mathlib.Core.Bool.{true, false}
+use mathlib.Core.List.{List, [], _∷_, _++_}
+use lib.ListN.{length, getD, replicate, length-append, List·getD-append}
+use lib.Seq.{append-snoc, getD-at}
+use Rattle.letters.specs.Letters.{residue, base64url, every}
+use Rattle.letters.proofs.Class.{every-at}
+use Rattle.text.specs.Decimal.{decimal}
+use Rattle.text.proofs.Digits.{decimal-digits}
+use Rattle.words.specs.Prefix.{Begins}
+use Rattle.words.specs.Vocabulary.{Word, Digest, Letters, DecimalTo}
+use Rattle.words.proofs.Following.{Then, Apart}
+
+pub decimal-to : {most : ℕ} (n : ℕ) → n ≤ most → DecimalTo most (decimal n)
+decimal-to n h = record { number = n; small = h; digits = refl }
+
+pub some-digest : Digest (replicate 32 0x41)
+unfolding every base64url
+some-digest = record { long = refl; characters = refl }
+
+pub no-letters : (most : ℕ) → Letters most []
+unfolding every
+no-letters most = record { few = omega arith; letters = refl }
+
+longer : (w r : List ℕ) (c : ℕ) → length (w ++ (c ∷ []) ++ r) ≡ length w + 1 + length r
+longer w r c = simp length-append
+
+at-seam : (w r : List ℕ) (c : ℕ) → getD (w ++ (c ∷ []) ++ r) (length w) 0 ≡ c
+at-seam w r c = rw append-snoc (getD-at w c r 0 (length w) refl)
+
+-- words of one length
+module _ (Kind : List ℕ → Type 0) (n : ℕ) (long : (w : List ℕ) → Kind w → length w ≡ n) (Next : List ℕ → List ℕ → Type 0) where
+  pub apart-length : Apart Kind Next
+  apart-length w c k b _ = omega (arith, long w k, long _ (b .whole), longer w (b .rest) c)
+
+pub apart-word : (word : List ℕ) (Next : List ℕ → List ℕ → Type 0) → Apart (Word word) Next
+apart-word word = apart-length (Word word) (length word) (λ w e. ap length e)
+
+pub apart-digest : (Next : List ℕ → List ℕ → Type 0) → Apart Digest Next
+apart-digest = apart-length Digest 32 (λ w d. d .long)
+
+-- what begins with a word begins with its first byte
+module _ (word : List ℕ) (nonempty : 0 < length word) (N : List ℕ → List ℕ → Type 0) where
+  pub begins-first : (c : ℕ) → Begins (Then (Word word) N) (c ∷ []) → c ≡ getD word 0 0
+  begins-first c b =
+      let t = b .whole in
+      ap (λ (l : List ℕ). getD l 0 0) (t .joined ∙ ap (λ (l : List ℕ). l ++ t .rest) (t .is-word)) ∙ List·getD-append word (t .rest) 0 0 nonempty
+
+-- words of digits, or of letters, before a word that begins with none
+module _ (most : ℕ) (word : List ℕ) (nonempty : 0 < length word) (N : List ℕ → List ℕ → List ℕ → Type 0) where
+  pub apart-decimal : (0x30 ≤ getD word 0 0 → getD word 0 0 ≤ 0x39 → ⊥) → Apart (DecimalTo most) (λ w. Then (Word word) (N w))
+  apart-decimal f w c k b n =
+      let d = b .whole in
+      let there : getD (decimal (d .number)) (length w) 0 ≡ getD word 0 0
+      = ap (λ (l : List ℕ). getD l (length w) 0) (sym (d .digits)) ∙ at-seam w (b .rest) c ∙ begins-first word nonempty (N w) c n in
+      let among = decimal-digits (d .number) (length w) (omega (arith, ap length (d .digits), longer w (b .rest) c)) in
+      f (omega (arith, among .0, there)) (omega (arith, among .1, there))
+
+  pub apart-letters : residue (getD word 0 0) ≡ false → Apart (Letters most) (λ w. Then (Word word) (N w))
+  apart-letters f w c k b n =
+      let among : residue c ≡ true
+      = ap residue (sym (at-seam w (b .rest) c)) ∙ every-at residue (w ++ (c ∷ []) ++ b .rest) (length w) (b .whole .letters) (omega (arith, longer w (b .rest) c)) in
+      let z : _≡_ {A = ℕ} 0 1 = cc (begins-first word nonempty (N w) c n) in omega arith

@@ -1,0 +1,28 @@
+-- Document 01, "Texts and identifiers": the words that texts are made of. Words of one kind are a predicate on lists.
+use Prim.Native.Nat.{ℕ, _≤_}
+use mathlib.Core.Path.{_≡_}
+use mathlib.Core.Bool.{true}
+use mathlib.Core.List.{List}
+use lib.ListN.{length}
+use Rattle.letters.specs.Letters.{residue, base64url, every}
+use Rattle.text.specs.Decimal.{decimal}
+
+-- this one alone
+abbrev pub Word : List ℕ → List ℕ → Type 0
+Word w s = s ≡ w
+
+-- 32 base64url characters
+pub record Digest (s : List ℕ) : Type 0 where
+  pub long : length s ≡ 32
+  pub characters : every base64url s ≡ true
+
+-- at most so many letters
+pub record Letters (most : ℕ) (s : List ℕ) : Type 0 where
+  pub few : length s ≤ most
+  pub letters : every residue s ≡ true
+
+-- the decimals of the numbers up to a limit
+pub record DecimalTo (most : ℕ) (s : List ℕ) : Type 0 where
+  pub number : ℕ
+  pub small : number ≤ most
+  pub digits : s ≡ decimal number
