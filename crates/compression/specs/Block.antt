@@ -64,5 +64,6 @@ chained s t =
       h = s .h ⊞ t .h;
     }
 
+-- all four steps
 unfoldable pub compressed : Hash → List ℕ → Hash
 compressed s b = chained s (rounds 80 (schedule 64 (blockWords 16 b)) s)

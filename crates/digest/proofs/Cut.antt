@@ -1,19 +1,17 @@
 -- Wherever a reference is cut into parts, its identifier is that of the whole call.
 use Prim.Native.Nat.{ℕ, _+_, _≤_}
 use native.Mathlib.Omega.{arith}
-use mathlib.Core.Path.{_≡_, refl}
+use mathlib.Core.Path.{_≡_, refl, sym}
 use mathlib.Core.Bool.{true, false}
 use mathlib.Core.List.{List, [], _∷_, _++_, append-assoc, append-nil}
 use lib.Dec.{ltb}
 use lib.ListN.{length, length-append}
 use borrow.Author.Tests.{ltb-false, le-ltb}
 use Rattle.refusal.specs.Limits.{referenceLimit}
-use Rattle.refusal.specs.declared.Outcome.{Outcome}
-use Rattle.refusal.specs.declared.Outcome.the-variants.{Accepted, Refused}
-use Rattle.refusal.specs.declared.Refusal.{Refusal}
+use Rattle.refusal.specs.declared.Outcome.the-variants.{Accepted}
 use Rattle.refusal.specs.declared.Written.{Written}
 use Rattle.refusal.specs.Verdict.{accepted, verdict}
-use Rattle.refusal.proofs.Verdict.{none-holds, tell-accepted}
+use Rattle.refusal.proofs.Verdict.{none-holds, outcome-accepted}
 use Rattle.letters.specs.Letters.{residue, every, foreign}
 use Rattle.letters.proofs.Class.{every-append}
 use Rattle.letters.proofs.Outside.{foreign-le, foreign-none, firstOutside-every}
@@ -29,14 +27,9 @@ record Taken (state : Running) (residues : List ℕ) : Type 0 where
   letters : every residue residues ≡ true
   within : length residues ≤ referenceLimit
 
-apart : (r : Refusal) → _≡_ {A = Outcome} (Refused r) Accepted → ⊥
-apart r e =
-    let z : _≡_ {A = ℕ} 0 1 = cc in
-    omega arith
-
 taken-on : (state : Running) (m part : List ℕ) → Taken state m → feeding state part .outcome ≡ Accepted → Taken (feeding state part .state) (m ++ part)
 taken-on state m part t e =
-    let v : verdict (partGrounds (state .total) part) ≡ accepted = tell-accepted Refused _ Accepted apart e in
+    let v : verdict (partGrounds (state .total) part) ≡ accepted = outcome-accepted (verdict (partGrounds (state .total) part)) (sym e) in
     let passed = none-holds (partGrounds (state .total) part) v in
     let total : state .total ≡ length m = t .fed-is .total-is in
     let few : state .total + length part ≤ referenceLimit = ltb-false referenceLimit (state .total + length part) (passed 0) in

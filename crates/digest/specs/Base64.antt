@@ -17,6 +17,7 @@ group a b c =
     ∷ character (c % 64)
     ∷ []
 
+-- group after group; fewer than three bytes, which 24 never leave, are dropped
 unfoldable pub encoded : List ℕ → List ℕ
 encoded [] = []
 encoded (a ∷ []) = []

@@ -39,6 +39,7 @@ finishGrounds total room place =
 abbrev pub Identifies : List ℕ → List ℕ → ℕ → Written → List ℕ → Type 0
 Identifies reference out place = Writes (verdict (wholeGrounds reference (length out) place)) (sequenceIdentifier reference) out place
 
+-- and so is that of all that a state was fed
 abbrev pub Finishes : Running → List ℕ → ℕ → Written → List ℕ → Type 0
 Finishes state out place = Writes (verdict (finishGrounds (state .total) (length out) place)) (sequencePrefix ++ digestText (finished state)) out place
 

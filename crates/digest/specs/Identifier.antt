@@ -10,6 +10,7 @@ use Rattle.digest.specs.Base64.{encoded}
 unfoldable pub digestText : List ℕ → List ℕ
 digestText d = encoded (take 24 d)
 
+-- the 32 characters of a message's digest
 unfoldable pub sha512t24u : List ℕ → List ℕ
 sha512t24u m = digestText (sha512 m)
 

@@ -34,7 +34,7 @@ pub fn write_identifier(out: &mut [u8], prefix: &[u8], digest: &[u8])
     write_digest_text(&mut out[prefix.len()..], digest);
 }
 
-// Writes a prefix and the digest's 32 characters into `out` from `place` on, where there is room.
+// Writes a prefix and the digest's 32 characters into `out`, which has room for them from `place` on.
 pub fn place_identifier(out: &mut [u8], place: u64, prefix: &[u8], digest: &[u8]) -> Written
     requires { ⌜ place + (length (now prefix) + 32) ≤ length (now out) ⌝ }
     requires { ⌜ 24 ≤ length (now digest) ⌝ }

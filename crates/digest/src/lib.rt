@@ -1,5 +1,9 @@
-// Sequence digests: sha512t24u, the identifier of a whole reference, and the running digest of one
-// that comes in parts.
+// Sequence digests: sha512t24u, the identifier of a whole reference, and the running digest, by value,
+// of one that comes in parts. Crate `running` lends the state; `locations` and `identify` write their
+// identifiers by this one.
+//
+// specs/Base64.antt and specs/Identifier.antt have the identifier, specs/Calls.antt what the calls
+// promise.
 mod base64;
 mod identifier;
 mod running;

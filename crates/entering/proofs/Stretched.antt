@@ -9,7 +9,6 @@ use Rattle.normal.specs.Stretches.{Fits, joined}
 use Rattle.normal.proofs.Joined.{length-joined}
 use Rattle.records.proofs.Three.{length-three}
 
--- as the code sums up a form's letters
 pub stretches-long : (r : List ℕ) (start end : ℕ) (x : List ℕ) (w : Stretches) → Fits r start end x w → (n : ℕ)
     → n ≡ start - w .left + (w .to - w .from) + (w .right - end)
     → n ≡ length (part r (w .left) start) + (length (part x (w .from) (w .to)) + length (part r end (w .right)))

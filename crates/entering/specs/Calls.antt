@@ -47,6 +47,7 @@ entryGrounds b digest r start end x =
     imageGrounds b digest r
     ++ (changeGrounds r start end x ++ roomGrounds b (normal r start end x) (found b (normal r start end x)))
 
+-- what `entry` promises
 unfoldable pub Enters : List ℕ → List ℕ → List ℕ → ℕ → ℕ → List ℕ → Entered → List ℕ → Type 0
 Enters b digest r start end x =
     Does Refused (verdict (entryGrounds b digest r start end x)) (found b (normal r start end x)) b

@@ -17,18 +17,20 @@ use Rattle.entering.specs.declared.Entered.the-variants.{Refused as Unen
 use Rattle.entering.specs.Found.{found, entered}
 use Rattle.entering.specs.Calls.{imageGrounds, changeGrounds, roomGrounds}
 
+-- the kind that 12 is about
 abbrev pub unchanged : Kind → Bool
 unchanged Unchanged = true
 unchanged Substitution = false
 unchanged Indel = false
 
--- the image's grounds, the allele's, those of a form that was found so, and of an allele on an image that has passed
+-- what the tests of the image answer, and those of the allele
 abbrev pub imageAnswer : List ℕ → List ℕ → List ℕ → Outcome
 imageAnswer b digest r = tell Refused (verdict (imageGrounds b digest r)) Accepted
 
 abbrev pub changeAnswer : List ℕ → ℕ → ℕ → List ℕ → Located
 changeAnswer r start end x = tell Unfound (verdict (changeGrounds r start end x)) (Found (stretchesOf r start end x))
 
+-- the entry of a form that was found so, and of an allele, on an image that has passed
 abbrev pub EntersAs : List ℕ → Normal → Entered → Entered → List ℕ → Type 0
 EntersAs b f said = Does Unentered (verdict (roomGrounds b f said)) said b (entered b f said)
 

@@ -49,7 +49,7 @@ ghost use Rattle.entering.specs.declared.Entered.the-variants.{New, Agai
 ghost use Rattle.entering.specs.Calls.{EntersForm, Enters};
 ghost use Rattle.entering.specs.Inner.{unchanged, imageAnswer, changeAnswer, EntersAs, EntersAllele};
 
-// 10, 11.
+// The tests 10, 11.
 fn check_image(image: &[u8], digest: &[u8], reference: &[u8]) -> Outcome
     ensures { λ r. ⌜ r ≡ imageAnswer (now (image .entry)) (now (digest .entry)) (now (reference .entry)) ⌝ }
 {
@@ -75,7 +75,7 @@ fn is_unchanged(kind: Kind) -> bool
     }
 }
 
-// 1, 2, 3, 4, 5, 12.
+// The tests 1, 2, 3, 4, 5, 12.
 fn check_change(reference: &[u8], start: u64, end: u64, replacement: &[u8]) -> Located
     ensures { λ r. ⌜ r ≡ changeAnswer (now (reference .entry)) start end (now (replacement .entry)) ⌝ }
 {
@@ -146,7 +146,7 @@ fn enter_form(image: &mut [u8], form: Form, a: &[u8], b: &[u8], c: &[u8]) -> Ent
     enter_new(image, form, a, b, c)
 }
 
-// The form that the stretches hold.
+// Enters the form that the stretches hold.
 fn enter_stretches(
     image: &mut [u8],
     reference: &[u8],
@@ -181,7 +181,7 @@ fn enter_stretches(
     )
 }
 
-// 1, 2, 3, 4, 5, 12, and the normal form.
+// The tests 1, 2, 3, 4, 5, 12, and the entry of the normal form.
 fn enter_allele(
     image: &mut [u8],
     reference: &[u8],

@@ -1,4 +1,4 @@
-// Entry of an allele into a register's image (document 01, "Entry").
+// Entry of an allele into a register's image (document 01, "Entry"). The other calls are in `register`.
 //
 // specs/Found.antt has what an entry is answered and leaves, and specs/Calls.antt what it promises.
 mod allele;

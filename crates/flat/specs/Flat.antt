@@ -25,6 +25,7 @@ use Rattle.flat.specs.declared.FvOutcome.{FvOutcome}
 use Rattle.flat.specs.declared.FvUndone.{FvUndone}
 use Rattle.flat.specs.declared.FvWritten.{FvWritten}
 
+-- document 01's number and value of a refusal, 0 for an accepted answer; and what that answers, 0 for a refusal
 abbrev pub flatWritten : Written → FvWritten
 flatWritten (Bytes n) = record { refusal = 0; value = 0; length = n }
 flatWritten (Refused r) = record { refusal = r .number; value = r .value; length = 0 }
@@ -50,7 +51,7 @@ abbrev pub flatOutcome : Outcome → FvOutcome
 flatOutcome Accepted = record { refusal = 0; value = 0 }
 flatOutcome (Stopped r) = record { refusal = r .number; value = r .value }
 
--- how an entry was answered
+-- 1 new, 2 again, 3 known
 abbrev pub flatEntered : Entered → FvEntered
 flatEntered (New i) = record { refusal = 0; value = 0; answer = 1; number = i }
 flatEntered (Again i) = record { refusal = 0; value = 0; answer = 2; number = i }

@@ -1,4 +1,4 @@
-// The answers of the calls as C reads them.
+// The answers of the calls as C reads them. Crate `fearnavult` exports the calls with these.
 //
 // specs/Flat.antt has the flattening, and what every export of the C library promises.
 mod numbered;

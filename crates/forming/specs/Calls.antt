@@ -65,5 +65,6 @@ pub record Forms (v : Verdict) (f : Normal) (out : List ℕ) (place : ℕ) (answ
 abbrev pub Lays : List ℕ → ℕ → ℕ → List ℕ → Stretches → List ℕ → ℕ → Normalised → List ℕ → Type 0
 Lays r start end x w out place = Forms (verdict (outputTooShort (length out) place (length (joined r start end x w)) ∷ [])) (formIn r start end x w) out place
 
+-- what `normal_form` promises
 abbrev pub Normalises : List ℕ → ℕ → ℕ → List ℕ → List ℕ → ℕ → Normalised → List ℕ → Type 0
 Normalises r start end x out place = Forms (verdict (normalGrounds r start end x (length out) place)) (normal r start end x) out place

@@ -1,4 +1,5 @@
 // The calls for a normal form (document 01, "The normal form"): an allele is tested, formed and written.
+// Crates `lines`, `identify` and `entering` stand on them.
 //
 // specs/Calls.antt has what they promise.
 mod call;

@@ -23,10 +23,12 @@ pub record Active (r b : List ℕ) (i : ℕ) (t : List ℕ) : Type 0 where
   pub on : statusOf b i ≡ active
   pub stands : sequenceOf r b i ≡ t
 
+-- some active number stands for it
 pub record SomeActive (r b t : List ℕ) : Type 0 where
   pub number : ℕ
   pub shown : Active r b number t
 
+-- what holds after every history
 pub record Demand (r : List ℕ) (h : List Event) (b : List ℕ) : Type 0 where
   -- the changes that stand, replayed on an empty set, give exactly the altered sequences of the active numbers
   pub replays : (t : List ℕ) → (replayed (meant h) (standing h) t ≡ true) ↔ SomeActive r b t

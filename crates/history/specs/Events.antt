@@ -8,6 +8,7 @@ use lib.Dec.{eqb}
 use lib.ListN.{drop}
 use Rattle.stretch.specs.Same.{same}
 
+-- how an accepted entry is answered
 pub data Way : Type 0 where
   new : Way
   again : Way

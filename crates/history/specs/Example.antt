@@ -15,6 +15,7 @@ use Rattle.entering.specs.Calls.{Enters}
 use Rattle.register.specs.Calls.{Blanks, Withdraws, Undoes, Seals}
 use Rattle.history.specs.Events.{Event, entry, new, again, known, undo, withdrawal, seal, refusal}
 
+-- the reference, its digest, and a buffer of just the room, filled with some byte
 abbrev pub reference : List ℕ
 reference = ascii "TCAGCAGCAGT"
 
@@ -46,9 +47,11 @@ oneWithdrawn = withdrawn oneAgain 1
 unfoldable pub closed : List ℕ
 closed = sealed oneWithdrawn
 
+-- an entry on that reference
 abbrev pub Entry : List ℕ → ℕ → ℕ → String → Entered → List ℕ → Type 0
 Entry b start end x = Enters b digest reference start end (ascii x)
 
+-- each call, its answer and the image that it leaves
 pub record Played : Type 0 where
   pub first : Blanks room 11 digest 2 3 15 Accepted blank
   pub case-1 : Entry blank 4 4 "CAG" (New 1) one
@@ -60,10 +63,11 @@ pub record Played : Type 0 where
   pub withdrawn-1 : Withdraws oneAgain 1 Accepted oneWithdrawn
   pub sealed-all : Seals oneWithdrawn Accepted closed
 
--- the history of these calls, the latest first
+-- the altered sequence that an entry makes
 abbrev pub made : ℕ → ℕ → String → List ℕ
 made start end x = altered reference start end (ascii x)
 
+-- the history of these calls, the latest first
 abbrev pub events : List Event
 events =
     seal

@@ -25,7 +25,7 @@ use Rattle.reading.proofs.Promises.{reads-allele-back, location-of-back, sequen
 use Rattle.digest.specs.Identifier.{sha512t24u}
 use Rattle.digest.proofs.Encoding.{length-sha512t24u}
 use Rattle.digest.proofs.Characters.{digest-characters}
-use Rattle.identify.specs.Identifiers.{textOf}
+use Rattle.identify.specs.Identifier.{textOf}
 use Rattle.identify.specs.Calls.{alleleGrounds, SaysAllele}
 
 module _ (r : List ℕ) (start end : ℕ) (x digest out : List ℕ) (place k : ℕ) (left : List ℕ) (p : SaysAllele r start end x digest out place (Bytes k) left) where

@@ -19,7 +19,7 @@ use Rattle.sha512.specs.Parts.{begun, joined, fedAll, finished}
 use Rattle.sha512.proofs.Join.{parts-join}
 use Rattle.digest.specs.Identifier.{sha512t24u}
 use Rattle.digest.proofs.Encoding.{length-sha512t24u}
-use Rattle.identify.specs.Identifiers.{textOf, identifierOf}
+use Rattle.identify.specs.Identifier.{textOf, identifierOf}
 
 abbrev pieces : List ℕ → List ℕ → List ℕ → List ℕ → List (List ℕ)
 pieces location a b c = beforeLocation ∷ location ∷ beforeSequence ∷ a ∷ b ∷ c ∷ behindSequence ∷ []

@@ -1,4 +1,4 @@
--- Changed alleles on one reference and digest have one text exactly where they have one altered sequence; but that two location texts might have one digest is not ruled out by SHA-512.
+-- Changed alleles on one reference and digest have one text exactly where they have one altered sequence, but for a collision: two location texts with one digest.
 use Prim.Native.Nat.{ℕ}
 use native.Mathlib.Omega.{arith}
 use mathlib.Core.Logic.{_⊎_, inl, inr}
@@ -17,7 +17,7 @@ use Rattle.reading.specs.Accepted.{LocationText}
 use Rattle.reading.proofs.LocationTexts.{location-start, location-end}
 use Rattle.digest.specs.Identifier.{sha512t24u}
 use Rattle.digest.proofs.Encoding.{length-sha512t24u}
-use Rattle.identify.specs.Identifiers.{textOf, Collision}
+use Rattle.identify.specs.Identifier.{textOf, Collision}
 
 module _ (r : List ℕ) (s₁ e₁ : ℕ) (x₁ : List ℕ) (s₂ e₂ : ℕ) (x₂ digest : List ℕ) where
   abbrev one : Normal

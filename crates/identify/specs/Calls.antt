@@ -11,13 +11,14 @@ use Rattle.normal.specs.Stretches.{joined, stretchesOf}
 use Rattle.forming.specs.declared.Located.{Located}
 use Rattle.forming.specs.declared.Located.the-variants.{Accepted as Found, Refused as Unfound}
 use Rattle.forming.specs.Calls.{givenGrounds, foreignNormal}
-use Rattle.identify.specs.Identifiers.{textOf, identifierOf}
+use Rattle.identify.specs.Identifier.{textOf, identifierOf}
 
 -- an allele and the digest of its sequence: 1, 2, 3, 4, then 7, then 5
 unfoldable pub alleleGrounds : List ℕ → ℕ → ℕ → List ℕ → List ℕ → List Ground
 alleleGrounds r start end x digest =
     givenGrounds r start end x ++ (digestTextGrounds digest ++ (foreignNormal (normal r start end x .replacement) ∷ []))
 
+-- the allele text, and the allele's identifier: 1, 2, 3, 4, 7, 5, 6
 abbrev pub SaysAllele : List ℕ → ℕ → ℕ → List ℕ → List ℕ → List ℕ → ℕ → Written → List ℕ → Type 0
 SaysAllele r start end x digest = Says (alleleGrounds r start end x digest) (textOf (normal r start end x) digest)
 

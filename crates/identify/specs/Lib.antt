@@ -1,2 +1,2 @@
-pub mod Identifiers
+pub mod Identifier
 pub mod Calls

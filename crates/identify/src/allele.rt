@@ -19,7 +19,7 @@ ghost use mathlib.Core.List.{[]};
 ghost use lib.ListN.{length};
 ghost use Rattle.refusal.specs.Writes.{Says};
 ghost use Rattle.normal.specs.Stretches.{Fits, formIn};
-ghost use Rattle.identify.specs.Identifiers.{textOf, identifierOf};
+ghost use Rattle.identify.specs.Identifier.{textOf, identifierOf};
 ghost use Rattle.identify.specs.Calls.{alleleAnswer, restAnswer, SaysAllele, IdentifiesAllele};
 
 const ALLELE_PREFIX: [u8; 9] = *b"ga4gh:VA.";
@@ -30,7 +30,7 @@ const IDENTIFIER_LENGTH: u64 = 41;
 // The bytes of an allele text around its sequence: its words, and the location's digest.
 const AROUND_SEQUENCE: usize = 110;
 
-// 7, then 5.
+// The tests 7, 5.
 fn check_rest(
     reference: &[u8],
     start: usize,
@@ -48,7 +48,7 @@ fn check_rest(
     }
 }
 
-// 1, 2, 3, 4, 7, 5.
+// The tests 1, 2, 3, 4, 7, 5.
 fn check_allele(
     reference: &[u8],
     start: u64,

@@ -11,9 +11,9 @@ ghost use lib.ListN.{length};
 ghost use Rattle.normal.specs.Stretches.{Fits, formIn};
 ghost use Rattle.sha512.specs.Message.{sha512};
 ghost use Rattle.text.specs.Layout.{alleleText};
-ghost use Rattle.identify.specs.Identifiers.{textOf};
+ghost use Rattle.identify.specs.Identifier.{textOf};
 
-// The replacement comes in three stretches.
+// The hash of an allele text whose replacement comes in three stretches.
 fn allele_hash(location: &[u8], a: &[u8], b: &[u8], c: &[u8]) -> [u8; 64]
     requires { ⌜ length (now location) + (length (now a) + (length (now b) + (length (now c) + 78))) < 2 ^ 64 ⌝ }
     ensures { λ r. ⌜ r ≡ sha512 (alleleText (now (location .entry)) (now (a .entry) ++ (now (b .entry) ++ now (c .entry)))) ⌝ }
@@ -27,7 +27,7 @@ fn allele_hash(location: &[u8], a: &[u8], b: &[u8], c: &[u8]) -> [u8; 64]
     sha512::finish(sha512::feed(last, &BEHIND_SEQUENCE))
 }
 
-// The form that the stretches hold.
+// The hash of the text of the form that the stretches hold.
 pub fn form_hash(
     reference: &[u8],
     start: usize,

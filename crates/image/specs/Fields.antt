@@ -31,7 +31,7 @@ poolPlace records journal = journalPlace records + entrySize * journal
 abbrev pub imageSize : ℕ → ℕ → ℕ → ℕ
 imageSize records journal pool = poolPlace records journal + pool
 
--- the header: the counts stand where changes find them
+-- where the header's counts stand, which changes write
 abbrev pub issuedPlace : ℕ
 issuedPlace = 8
 
@@ -41,6 +41,7 @@ journalCountPlace = 20
 abbrev pub poolUsedPlace : ℕ
 poolUsedPlace = 32
 
+-- the header's fields, in the table's order
 abbrev pub edition : List ℕ → ℕ
 edition b = number b 0
 
@@ -100,6 +101,7 @@ headerOf n digest records journal pool =
 unfoldable pub recordAt : ℕ → ℕ
 recordAt i = headerSize + recordSize * (i - 1)
 
+-- its fields: normal start, normal end, offset in the pool, replacement length, status
 abbrev pub startOf : List ℕ → ℕ → ℕ
 startOf b i = number b (recordAt i)
 
@@ -118,13 +120,14 @@ statusAt i = recordAt i + 16
 abbrev pub statusOf : List ℕ → ℕ → ℕ
 statusOf b i = number b (statusAt i)
 
+-- the two statuses
 abbrev pub inactive : ℕ
 inactive = 0
 
 abbrev pub active : ℕ
 active = 1
 
--- its bytes: start, end, offset in the pool, length, status
+-- its bytes, field by field
 unfoldable pub recordOf : ℕ → ℕ → ℕ → ℕ → ℕ → List ℕ
 recordOf start end offset length status = numbers (start ∷ end ∷ offset ∷ length ∷ status ∷ [])
 

@@ -1,5 +1,5 @@
 -- Document 01, "The register image": when an image is well formed.
-use Prim.Native.Nat.{ℕ, zero, suc, _+_, _*_}
+use Prim.Native.Nat.{ℕ, zero, suc, _+_}
 use mathlib.Core.Bool.{Bool, true, false, cond}
 use mathlib.Core.List.{List, [], _∷_}
 use lib.Dec.{leb, eqb}
@@ -62,6 +62,7 @@ recordGood b k =
 unfoldable pub entryGood : List ℕ → ℕ → Bool
 entryGood b j = all (leb 1 (entryOf b j) ∷ leb (entryOf b j) (issued b) ∷ [])
 
+-- all of it, and that the buffer holds a header and is at least pool offset + P
 unfoldable pub wellFormed : List ℕ → Bool
 wellFormed b =
     all (

@@ -39,6 +39,7 @@ fn journal_formed(image: &[u8]) -> bool
     true
 }
 
+// Whether an image is well formed: its header first, by which the rest is read.
 pub fn well_formed(image: &[u8]) -> bool
     ensures { λ r. ⌜ r ≡ wellFormed (now (image .entry)) ⌝ }
 {

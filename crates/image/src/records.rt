@@ -34,6 +34,7 @@ pub fn record_at(number: usize) -> usize
     HEADER_SIZE + RECORD_SIZE * (number - 1)
 }
 
+// The status of a number that was issued.
 pub fn status_of(image: &[u8], number: usize) -> usize
     requires { ⌜ Header (now image) ⌝ }
     requires { ⌜ (1 ≤ number) × (number ≤ issued (now image)) ⌝ }

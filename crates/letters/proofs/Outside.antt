@@ -1,4 +1,4 @@
--- The first byte outside a class: its bound, what holds before it and there, and appended stretches.
+-- The first byte outside a class: its bound, what holds before it, and appended stretches.
 use Prim.Native.Nat.{ℕ, suc, _+_, _-_, _<_, _≤_}
 use native.Mathlib.Nat.{le-of-suc-le-suc, not-suc-le-zero, zero-add, add-sub-cancel-left}
 use native.Mathlib.Numerals.{add-one}
@@ -42,11 +42,6 @@ module _ (p : ℕ → Bool) where
   firstOutside-within [] ys h = absurd (not-suc-le-zero h)
   firstOutside-within (x ∷ xs) ys h =
       by-cases (p x) (λ e. rw e (ap suc (firstOutside-within xs ys (le-of-suc-le-suc (rw e at h))))) (λ e. rw e)
-
-  pub firstOutside-at : (s : List ℕ) → firstOutside p s < length s → p (getD s (firstOutside p s) 0) ≡ false
-  unfolding firstOutside
-  firstOutside-at [] h = absurd (not-suc-le-zero h)
-  firstOutside-at (x ∷ s) h = by-cases (p x) (λ e. rw e (firstOutside-at s (le-of-suc-le-suc (rw e at h)))) (λ e. rw e e)
 
   -- all before it are inside, and no more than these
   pub firstOutside-take : (s : List ℕ) → every p (take (firstOutside p s) s) ≡ true

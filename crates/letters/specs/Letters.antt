@@ -17,6 +17,7 @@ residue b = cond (leb 0x41 b) (leb b 0x5A) false
 abbrev pub alphabet : List ℕ
 alphabet = ascii "ABCDEFGHIJKLMNOPQRSTUVWXYZabcdefghijklmnopqrstuvwxyz0123456789-_"
 
+-- c is one of them
 abbrev pub occurs : ℕ → List ℕ → Bool
 occurs c [] = false
 occurs c (x ∷ xs) = cond (eqb c x) true (occurs c xs)

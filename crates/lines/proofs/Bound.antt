@@ -12,11 +12,8 @@ use Rattle.stretch.specs.Same.{same}
 use Rattle.stretch.proofs.Cases.{by-cases}
 use Rattle.refusal.specs.declared.Refusal.{Refusal}
 use Rattle.refusal.specs.Verdict.{Ground, Verdict, accepted, refused, unless, verdict}
-use Rattle.normal.specs.Form.{Allele, Normal, normal}
-use Rattle.normal.specs.Stretches.{joined, stretchesOf}
-use Rattle.normal.proofs.Join.{stretches-fit, stretches-join}
-use Rattle.normal.proofs.Joined.{length-joined}
-use Rattle.normal.proofs.Laws.{normal-ordered, normal-inside}
+use Rattle.normal.specs.Form.{Normal, normal}
+use Rattle.normal.proofs.Laws.{normal-ordered, normal-inside, normal-short}
 use Rattle.forming.specs.Calls.{formGrounds}
 use Rattle.forming.proofs.Answers.{clean-allele}
 use Rattle.text.specs.declared.Number.{Number}
@@ -90,19 +87,13 @@ module _ (r : List ℕ) (start end : ℕ) (x : List ℕ) where
   unfolding numbers formGrounds
   five = refl
 
-  normal-short : Allele r start end x → length (normal r start end x .replacement) ≤ length r + length x
-  normal-short a =
-      let f = stretches-fit r start end x a in
-      let e : joined r start end x (stretchesOf r start end x) ≡ normal r start end x .replacement = ap (λ (f : Normal). f .replacement) (stretches-join r start end x a) in
-      omega (arith, ap length e, length-joined r start end x (stretchesOf r start end x) f, f .given, f .inside, a .ordered, a .inside)
-
   verdict-short : (v : Verdict) → verdict (formGrounds r start end x) ≡ v → length (verdictText v (normal r start end x)) ≤ length r + length x + 56
   verdict-short (refused q) e =
       let l : q .number ≤ 5 = number-within 5 (formGrounds r start end x) q five e in
       simp length-append (omega (arith, decimal-within (q .number) (omega arith)))
   verdict-short accepted e =
       let a = clean-allele r start end x e in
-      omega (arith, form-short (normal r start end x) (omega (arith, normal-ordered r start end x (a .ordered), normal-inside r start end x (a .inside), a .reference)) (omega (arith, normal-inside r start end x (a .inside), a .reference)), normal-short a)
+      omega (arith, form-short (normal r start end x) (omega (arith, normal-ordered r start end x (a .ordered), normal-inside r start end x (a .inside), a .reference)) (omega (arith, normal-inside r start end x (a .inside), a .reference)), normal-short r start end x (a .ordered) (a .inside))
 
 text-short : (r line : List ℕ) (s : Said) → said line ≡ s → length (saidText r s) ≤ length r + length line + 56
 unfolding said

@@ -14,6 +14,7 @@ use Rattle.text.specs.Decimal.{decimal}
 use Rattle.saying.specs.Cut.{parted}
 use Rattle.saying.specs.Said.{Said, unread, allele, said, space, lineFeed}
 
+-- a kind in words
 abbrev pub word : Kind → List ℕ
 word Unchanged = ascii "unchanged"
 word Substitution = ascii "substitution"
@@ -24,6 +25,7 @@ abbrev pub shown : List ℕ → List ℕ
 shown [] = ascii "."
 shown (c ∷ x) = c ∷ x
 
+-- normal start, end, kind, replacement
 abbrev pub formReply : Normal → List ℕ
 formReply f = decimal (f .start) ++ (space ∷ (decimal (f .end) ++ (space ∷ (word (f .kind) ++ (space ∷ shown (f .replacement))))))
 
@@ -32,6 +34,7 @@ abbrev pub verdictText : Verdict → Normal → List ℕ
 verdictText (refused q) f = ascii "refused " ++ decimal (q .number)
 verdictText accepted f = formReply f
 
+-- the answer to an allele, and to what a line says
 abbrev pub alleleReply : List ℕ → ℕ → ℕ → List ℕ → List ℕ
 alleleReply r start end x = verdictText (verdict (formGrounds r start end x)) (normal r start end x)
 
@@ -50,6 +53,7 @@ ended ([] ∷ []) = []
 ended ((c ∷ l) ∷ []) = (c ∷ l) ∷ []
 ended (l ∷ m ∷ ls) = l ∷ ended (m ∷ ls)
 
+-- the answers to lines, one after another
 abbrev pub answersTo : List ℕ → List (List ℕ) → List ℕ
 answersTo r [] = []
 answersTo r (l ∷ ls) = answerLine r l ++ answersTo r ls
@@ -59,6 +63,7 @@ abbrev pub outputOf : List (List ℕ) → List ℕ
 outputOf [] = []
 outputOf (r ∷ ls) = answersTo r (ended ls)
 
+-- what is printed for a whole input
 unfoldable pub output : List ℕ → List ℕ
 output input = outputOf (parted lineFeed input)
 

@@ -1,4 +1,4 @@
-// Texts laid one behind the other.
+// The parts of an answer, laid one behind the other.
 use normal::Kind;
 use refusal::OUTPUT_TOO_SHORT;
 use refusal::Written;

@@ -9,8 +9,8 @@ ghost use mathlib.Core.Path.{_≡_};
 ghost use Prim.Native.Nat.{_≤_};
 ghost use lib.ListN.{length};
 
-// Room for any answer: it has at most 57 bytes more than the reference and the line together (Bound.antt
-// of lines), and those are of an input of at most 65,536.
+// Room for any answer: it has at most 57 bytes more than the reference and the line together
+// (lines/proofs/Bound.antt), and those are of an input of at most 65,536.
 fn room() -> [u8; 65600]
     ensures { λ r. ⌜ 65600 ≡ length r ⌝ }
 {

@@ -24,6 +24,7 @@ intervalGrounds n start end =
 unfoldable pub locationGrounds : ℕ → ℕ → ℕ → List ℕ → List Ground
 locationGrounds n start end digest = intervalGrounds n start end ++ digestTextGrounds digest
 
+-- the location text, and the location's identifier: 1, 2, 3, 7, 6
 abbrev pub SaysLocation : ℕ → ℕ → ℕ → List ℕ → List ℕ → ℕ → Written → List ℕ → Type 0
 SaysLocation n start end digest = Says (locationGrounds n start end digest) (locationText start end digest)
 

@@ -29,7 +29,7 @@ const IDENTIFIER_LENGTH: u64 = 42;
 // The bytes of a location text around its numbers: its words, and the sequence's digest.
 const AROUND_NUMBERS: usize = 129;
 
-// 1, 2, 3, 7.
+// The tests 1, 2, 3, 7.
 fn check_location(residues: u64, start: u64, end: u64, digest: &[u8]) -> Outcome
     ensures { λ r. ⌜ r ≡ locationAnswer residues start end (now (digest .entry)) ⌝ }
 {

@@ -26,7 +26,7 @@ altered r start end x = take start r ++ (x ++ drop end r)
 unfoldable pub shorter : List ℕ → List ℕ → ℕ
 shorter r t = min (length r) (length t)
 
--- a common length p that leaves room, within k, for the common length q of the other side
+-- the smaller of p and k - q, 0 where q is above k: a common length that leaves that of the other side its room
 unfoldable pub within : ℕ → ℕ → ℕ → ℕ
 within k q p = min p (k - q)
 
@@ -41,6 +41,7 @@ behind r t = within (shorter r t) (lcp r t) (lcs r t)
 unfoldable pub kindIn : ℕ → ℕ → ℕ → Kind
 kindIn k p q = cond (ltb (p + q) k) Substitution Indel
 
+-- the kind, by p, q and k
 unfoldable pub kindOf : List ℕ → List ℕ → Kind
 kindOf r t = kindIn (shorter r t) (lcp r t) (lcs r t)
 

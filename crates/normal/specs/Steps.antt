@@ -86,12 +86,15 @@ settled r given start end (c ∷ reference) (d ∷ alternate) = record { start =
 settled r given start end [] (d ∷ alternate) = rolledOut r start end (d ∷ alternate) (d ∷ alternate)
 settled r given start end (c ∷ reference) [] = rolledOut r start end (c ∷ reference) []
 
+-- steps 0 and 1
 unfoldable pub trimmed : List ℕ → ℕ → ℕ → List ℕ → Underway
 trimmed r start end x = lessPrefix (lessSuffix (begun r start end x))
 
+-- steps 2 to 6 of an allele that is trimmed
 abbrev pub answered : List ℕ → Justified → Underway → Justified
 answered r given a = settled r given (a .start) (a .end) (a .reference) (a .alternate)
 
+-- all of the steps
 unfoldable pub justified : List ℕ → ℕ → ℕ → List ℕ → Justified
 justified r start end x = answered r (record { start = start; end = end; replacement = x }) (trimmed r start end x)
 

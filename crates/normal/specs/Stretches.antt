@@ -36,13 +36,15 @@ spread kind n given start end a b =
       right = max (n - b) end;
     }
 
+-- those of a changed allele, whose altered sequence is t
 unfoldable pub changedStretches : List ℕ → ℕ → ℕ → List ℕ → List ℕ → Stretches
 changedStretches r start end x t = spread (kindOf r t) (length r) (length x) start end (ahead r t) (behind r t)
 
--- all of the replacement given, and nothing of the reference
+-- those of an unchanged one: all of the replacement given, and nothing of the reference
 unfoldable pub asGiven : ℕ → ℕ → ℕ → Stretches
 asGiven start end given = record { kind = Unchanged; start = start; end = end; left = start; from = 0; to = given; right = end }
 
+-- those of an allele, changed or not
 unfoldable pub stretchesOf : List ℕ → ℕ → ℕ → List ℕ → Stretches
 stretchesOf r start end x =
     cond (same r (altered r start end x)) (asGiven start end (length x)) (changedStretches r start end x (altered r start end x))

@@ -21,6 +21,7 @@ case r start end x answer = record { reference = ascii r; start = start; end = e
 abbrev pub form : ℕ → ℕ → String → Kind → Normal
 form start end x kind = record { kind = kind; start = start; end = end; replacement = ascii x }
 
+-- the table, in its order
 abbrev pub cases : List Case
 cases =
     case "TCAGCAGCAGT" 4 4 "CAG" (form 1 10 "CAGCAGCAGCAG" Indel)

@@ -8,7 +8,6 @@ use stretch::equal;
 use stretch::smaller;
 ghost use mathlib.Core.Path.{_≡_};
 ghost use Prim.Native.Nat.{_-_, _≤_, max};
-ghost use lib.ListN.{length};
 ghost use Rattle.normal.specs.Form.{Allele, within, kindIn, altered};
 ghost use Rattle.normal.specs.Stretches.{spread, asGiven, changedStretches, stretchesOf};
 

@@ -1,5 +1,5 @@
 // The fully justified normal form of an allele on a lent reference (document 01, "The normal form"), and
-// how it is found.
+// how it is found. Crate `forming` makes it a call, with its tests and its write.
 //
 // specs/Form.antt has the form over the reference and the altered sequence, specs/Stretches.antt its
 // replacement as three stretches, specs/Steps.antt VRS's own steps to the same form, and

@@ -1,4 +1,5 @@
-// The parts of a line of test vectors, on standard output.
+// The parts of a line of test vectors, on standard output, for the programs that print them: `vectors`,
+// `allele_vectors` and `register_vectors`.
 use libc::STDOUT_FILENO;
 use refusal::Outcome;
 use refusal::Refusal;
@@ -34,6 +35,7 @@ pub fn part(out: &[u8], place: u64, count: u64) -> &[u8]
     &out[from..from + count as usize]
 }
 
+// A label, then two texts with a space between them.
 pub fn two(label: &[u8], first: &[u8], second: &[u8]) {
     text(label);
     shown(first);

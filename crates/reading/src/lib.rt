@@ -1,5 +1,6 @@
-// The location text and the allele text read back (document 01, "Texts and identifiers"), each as a chain
-// of the words of `words`.
+// The location text and the allele text read back (document 01, "Texts and identifiers"), each as a
+// chain of the words of `words`. That what a call has written is read back is proved above, in
+// `locations` and `identify`.
 //
 // specs/Accepted.antt has the texts that are accepted and what reading them answers.
 mod allele;

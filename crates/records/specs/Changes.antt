@@ -19,6 +19,7 @@ journalled b changed i = put (put changed (entryAt b (journalCount b)) i) journa
 unfoldable pub marked : List ℕ → ℕ → ℕ → List ℕ
 marked b i status = put b (statusAt i) status
 
+-- withdrawal, and entry answered "again"
 unfoldable pub withdrawn : List ℕ → ℕ → List ℕ
 withdrawn b i = journalled b (marked b i inactive) i
 
@@ -36,6 +37,7 @@ pooled b changed x = over changed (poolAt b + poolUsed b) x
 unfoldable pub counted : List ℕ → List ℕ → ℕ → List ℕ
 counted b changed letters = put (put changed issuedPlace (issued b + 1)) poolUsedPlace (poolUsed b + letters)
 
+-- entry answered "new": the next number, journalled
 unfoldable pub numbered : List ℕ → Normal → List ℕ
 numbered b f =
     journalled b (counted b (pooled b (recorded b f) (f .replacement)) (length (f .replacement))) (issued b + 1)
@@ -44,9 +46,10 @@ numbered b f =
 unfoldable pub latest : List ℕ → ℕ
 latest b = entryOf b (journalCount b - 1)
 
--- its status flipped, and its entry no longer counted
+-- undo: its status flipped, and its entry no longer counted
 unfoldable pub undone : List ℕ → List ℕ
 undone b = put (marked b (latest b) (1 - statusOf b (latest b))) journalCountPlace (journalCount b - 1)
 
+-- seal: the journal count set to 0
 unfoldable pub sealed : List ℕ → List ℕ
 sealed b = put b journalCountPlace 0

@@ -97,7 +97,7 @@ fn put_counts(image: &mut [u8], issued: usize, used: usize)
     put_number(image, POOL_USED, used);
 }
 
-// Gives a form the next number, where there is room.
+// Gives a form the next number, in an image that has room for it.
 pub fn number_form(image: &mut [u8], form: Form, a: &[u8], b: &[u8], c: &[u8])
     requires { ⌜ Header (now image) ⌝ }
     requires { ⌜ form .length ≡ length (now a) + (length (now b) + length (now c)) ⌝ }

@@ -18,12 +18,7 @@ none-holds [] v i = refl
 none-holds (g ∷ gs) v zero = passed (g .holds) (record { number = g .number; value = g .value }) (verdict gs) v .0
 none-holds (g ∷ gs) v (suc i) = none-holds gs (passed (g .holds) (record { number = g .number; value = g .value }) (verdict gs) v .1) i
 
--- an answer that is no refusal is that of an accepted call
-pub tell-accepted : {A : Type 0} (f : Refusal → A) (v : Verdict) (a : A) → ((r : Refusal) → f r ≡ a → ⊥) → tell f v a ≡ a → v ≡ accepted
-tell-accepted f accepted a apart h = refl
-tell-accepted f (refused r) a apart h = absurd (apart r h)
-
--- grounds behind others decide where the first ones pass
+-- the first ground that holds decides, whatever stands behind it
 first-one : (b : Bool) (q : Refusal) (v w : Verdict) (r : Refusal) → (v ≡ refused r → w ≡ refused r) → unless b q v ≡ refused r → unless b q w ≡ refused r
 first-one true q v w r f h = h
 first-one false q v w r f h = f h
@@ -33,6 +28,7 @@ verdict-first [] hs r h = cc
 verdict-first (g ∷ gs) hs r h =
     first-one (g .holds) (record { number = g .number; value = g .value }) (verdict gs) (verdict (gs ++ hs)) r (verdict-first gs hs r) h
 
+-- grounds behind others decide where the first ones pass
 then-others : (b : Bool) (q : Refusal) (v w u : Verdict) → (v ≡ accepted → w ≡ u) → unless b q v ≡ accepted → unless b q w ≡ u
 then-others true q v w u f h = cc
 then-others false q v w u f h = f h

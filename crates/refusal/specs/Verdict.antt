@@ -13,10 +13,12 @@ pub record Ground : Type 0 where
 abbrev pub ground : Bool → ℕ → ℕ → Ground
 ground b n v = record { holds = b; number = n; value = v }
 
+-- what comes of a call: it is accepted, or refused with a number and a value
 pub data Verdict : Type 0 where
   accepted : Verdict
   refused : Refusal → Verdict
 
+-- the refusal where a condition holds, else what follows
 abbrev pub unless : Bool → Refusal → Verdict → Verdict
 unless true r v = refused r
 unless false r v = v

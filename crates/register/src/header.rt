@@ -50,7 +50,7 @@ fn check_capacities(room: u64, records: u64, journal: u64, pool: u64) -> Outcome
     Outcome::Accepted
 }
 
-// 1, 7, 9.
+// The tests 1, 7, 9.
 fn check_blank(
     room: u64,
     residues: u64,

@@ -1,4 +1,5 @@
-// The register's calls on a lent image, but for entry (document 01, "The register image").
+// The register's calls on a lent image (document 01, "The register image"), but for entry, which is in
+// `entering`.
 //
 // specs/Calls.antt has what the calls promise.
 mod header;

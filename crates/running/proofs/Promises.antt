@@ -1,6 +1,6 @@
 -- A part has one outcome and leaves one state; and wherever a reference is cut, its identifier is that of the whole call.
 use Prim.Native.Nat.{ℕ}
-use mathlib.Core.Path.{_≡_, refl, sym, _∙_}
+use mathlib.Core.Path.{_≡_, sym, _∙_}
 use mathlib.Core.List.{List, [], _∷_}
 use Rattle.refusal.specs.declared.Outcome.{Outcome}
 use Rattle.refusal.specs.declared.Written.{Written}
@@ -12,13 +12,13 @@ use Rattle.digest.proofs.Cut.{cut-anywhere}
 use Rattle.running.specs.Calls.{Feeds, FeedsAll}
 
 pub feeds-once : (state : Running) (part : List ℕ) (o₁ o₂ : Outcome) (s₁ s₂ : Running) → Feeds state part o₁ s₁ → Feeds state part o₂ s₂ → (o₁ ≡ o₂) × (s₁ ≡ s₂)
-feeds-once state part o₁ o₂ s₁ s₂ p q = (one-answer (p .told) (q .told), one-answer (p .left) (q .left))
+feeds-once state part o₁ o₂ s₁ s₂ p q = (one-answer (p .answers) (q .answers), one-answer (p .leaves) (q .leaves))
 
 all-taken : (state : Running) (parts : List (List ℕ)) (after : Running) → FeedsAll state parts after → AllTaken state parts × (after ≡ feedingAll state parts)
 all-taken state [] after f = (tt, f)
 all-taken state (part ∷ parts) after (next, (f, fs)) =
     let (taken, is) = all-taken next parts after fs in
-    ((sym (f .told), rw (← f .left) taken), is ∙ (λ i. feedingAll (f .left i) parts))
+    ((sym (f .answers), rw (← f .leaves) taken), is ∙ (λ i. feedingAll (f .leaves i) parts))
 
 pub lent-anywhere : (parts : List (List ℕ)) (after : Running) → FeedsAll begun parts after → (out : List ℕ) (place : ℕ) (answer : Written) (left : List ℕ)
     → Finishes after out place answer left → Identifies (joined parts) out place answer left

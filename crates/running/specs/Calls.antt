@@ -9,8 +9,8 @@ use Rattle.digest.specs.Calls.{feeding}
 
 -- the outcome, and the state that the lent one has become
 pub record Feeds (state : Running) (part : List ℕ) (outcome : Outcome) (after : Running) : Type 0 where
-  pub told : outcome ≡ feeding state part .outcome
-  pub left : after ≡ feeding state part .state
+  pub answers : outcome ≡ feeding state part .outcome
+  pub leaves : after ≡ feeding state part .state
 
 -- the state that it has become after several parts, each of them accepted
 abbrev pub FeedsAll : Running → List (List ℕ) → Running → Type 0

@@ -16,10 +16,11 @@ unfoldable pub parted : ℕ → List ℕ → List (List ℕ)
 parted mark [] = [] ∷ []
 parted mark (c ∷ s) = cond (eqb c mark) ([] ∷ parted mark s) (onFirst c (parted mark s))
 
--- where the first piece ends: the offset of the first mark, or the length where there is none
+-- c is no mark
 abbrev pub other : ℕ → ℕ → Bool
 other mark c = not (eqb c mark)
 
+-- where the first piece ends: the offset of the first mark, or the length where there is none
 abbrev pub firstOf : ℕ → List ℕ → ℕ
 firstOf mark s = firstOutside (other mark) s
 

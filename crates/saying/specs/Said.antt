@@ -20,6 +20,7 @@ space = 0x20
 abbrev pub lineFeed : ℕ
 lineFeed = 0x0A
 
+-- what a line says: nothing that can be read, or an allele's start, end and replacement
 pub data Said : Type 0 where
   unread : Said
   allele : ℕ → ℕ → List ℕ → Said
@@ -52,10 +53,12 @@ abbrev pub meaning : List ℕ → Line → Said
 meaning line Unread = unread
 meaning line (Allele start end from) = allele start end (drop from line)
 
+-- that place, 0 where there is none
 abbrev pub placeIn : Line → ℕ
 placeIn Unread = 0
 placeIn (Allele start end from) = from
 
+-- the answer means what the line says, and its place lies in the line
 pub record Tells (line : List ℕ) (answer : Line) : Type 0 where
   pub means : meaning line answer ≡ said line
   pub inside : placeIn answer ≤ length line

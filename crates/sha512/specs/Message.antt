@@ -19,6 +19,7 @@ padding n = 0x80 ∷ (replicate ((239 - n % 128) % 128) 0 ++ bytesOf 16 (n * 8))
 unfoldable pub rest : List ℕ → List ℕ
 rest m = drop (length m / 128 * 128) m
 
+-- four words as bytes
 unfoldable pub fourWords : ℕ → ℕ → ℕ → ℕ → List ℕ
 fourWords a b c d = bytesOf 8 a ++ (bytesOf 8 b ++ (bytesOf 8 c ++ bytesOf 8 d))
 
@@ -26,5 +27,6 @@ fourWords a b c d = bytesOf 8 a ++ (bytesOf 8 b ++ (bytesOf 8 c ++ bytesOf 8 d))
 unfoldable pub hashBytes : Hash → List ℕ
 hashBytes s = fourWords (s .a) (s .b) (s .c) (s .d) ++ fourWords (s .e) (s .f) (s .g) (s .h)
 
+-- the digest of a message
 unfoldable pub sha512 : List ℕ → List ℕ
 sha512 m = hashBytes (hashed initial (m ++ padding (length m)))

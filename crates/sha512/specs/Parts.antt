@@ -12,6 +12,7 @@ use Rattle.sha512.specs.Message.{padding, rest, hashBytes}
 unfoldable pub filled : List ℕ → List ℕ
 filled s = s ++ replicate (128 - length s) 0
 
+-- the state before the first part
 unfoldable pub begun : Running
 begun = record { hash = initial; block = filled []; total = 0 }
 
@@ -27,11 +28,12 @@ after s n m = record { hash = hashed s m; block = filled (rest m); total = n }
 unfoldable pub fed : Running → List ℕ → Running
 fed r part = after (r .hash) ((r .total + length part) % 2 ^ 64) (waiting r ++ part)
 
+-- the message that parts make
 abbrev pub joined : List (List ℕ) → List ℕ
 joined [] = []
 joined (part ∷ parts) = part ++ joined parts
 
--- after several, one after another
+-- the state after several parts, one after another
 abbrev pub fedAll : Running → List (List ℕ) → Running
 fedAll r [] = r
 fedAll r (part ∷ parts) = fedAll (fed r part) parts

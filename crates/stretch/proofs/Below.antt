@@ -4,7 +4,7 @@ use native.Mathlib.Nat.{le-of-suc-le-suc, not-suc-le-zero, eq-or-lt-of-le}
 use native.Mathlib.Omega.{arith}
 use mathlib.Core.Logic.{⊎-elim}
 use mathlib.Core.Path.{_≡_, refl, sym, subst}
-use mathlib.Core.Bool.{Bool, true, false, cond}
+use mathlib.Core.Bool.{Bool, true, false}
 use Rattle.stretch.specs.Below.{below}
 use Rattle.stretch.proofs.Cases.{by-cases}
 
@@ -35,9 +35,3 @@ module _ (f : ℕ → Bool) where
   -- one does not
   pub below-fails : (n k : ℕ) → k < n → f k ≡ false → below f n ≡ false
   below-fails n k l e = by-cases (below f n) (λ t. cc (below-at n t k l, e)) (λ t. t)
-
--- tests that agree below the bound
-pub below-same : (f g : ℕ → Bool) (n : ℕ) → ((k : ℕ) → k < n → f k ≡ g k) → below f n ≡ below g n
-unfolding below
-below-same f g zero p = refl
-below-same f g (suc n) p = rw (p n (omega arith), below-same f g n (λ k l. p k (omega arith)))

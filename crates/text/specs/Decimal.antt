@@ -17,5 +17,6 @@ decimalIn (suc steps) n = cond (ltb n 10) (digit n ∷ []) (decimalIn steps (n /
 unfoldable pub enough : ℕ → ℕ
 enough n = cond (ltb n (2 ^ 64)) 19 n
 
+-- the decimal of a number
 unfoldable pub decimal : ℕ → List ℕ
 decimal n = decimalIn (enough n) n

@@ -1,7 +1,6 @@
 -- Document 01, "Texts and identifiers": the location text and the allele text, for writing and for reading.
-use Prim.Native.Nat.{ℕ, _+_}
+use Prim.Native.Nat.{ℕ}
 use mathlib.Core.List.{List, _++_}
-use lib.ListN.{length}
 use Rattle.stretch.specs.Ascii.{ascii}
 use Rattle.text.specs.Decimal.{decimal}
 
@@ -18,6 +17,7 @@ beforeDigest = ascii ",\"type\":\"SimpleInterval\"},\"sequence_id\":\""
 abbrev pub behindDigest : List ℕ
 behindDigest = ascii "\",\"type\":\"SequenceLocation\"}"
 
+-- the location text of T, E and D
 unfoldable pub locationText : ℕ → ℕ → List ℕ → List ℕ
 locationText start end digest =
     beforeEnd ++ (decimal end ++ (beforeStart ++ (decimal start ++ (beforeDigest ++ (digest ++ behindDigest)))))
@@ -32,6 +32,7 @@ beforeSequence = ascii "\",\"state\":{\"sequence\":\""
 abbrev pub behindSequence : List ℕ
 behindSequence = ascii "\",\"type\":\"SequenceState\"},\"type\":\"Allele\"}"
 
+-- the allele text of L and X
 unfoldable pub alleleText : List ℕ → List ℕ → List ℕ
 alleleText location replacement =
     beforeLocation ++ (location ++ (beforeSequence ++ (replacement ++ behindSequence)))

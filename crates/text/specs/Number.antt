@@ -14,6 +14,7 @@ unfoldable pub valueFrom : ℕ → List ℕ → ℕ
 valueFrom v [] = v
 valueFrom v (c ∷ s) = valueFrom (v * 10 + (c - 0x30)) s
 
+-- the number that all the digits of a text stand for
 unfoldable pub value : List ℕ → ℕ
 value s = valueFrom 0 s
 

@@ -1,4 +1,5 @@
-// Texts: decimals, written and read, and the location text and the allele text, written.
+// Texts: decimals, written and read, and the location text and the allele text, written. Crate
+// `reading` reads the two back.
 //
 // specs/Decimal.antt has the decimal of a number, specs/Number.antt the number of a text, and
 // specs/Layout.antt the two texts.

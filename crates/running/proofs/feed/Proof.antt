@@ -120,7 +120,7 @@ module _ {M : Type 1} (𝓤 : URA M) (H : Heap 𝓤) (A : Atoms 𝓤) (W : Given
   exits r e is =
       qed W (‵ (flft κ q) ∷ (‵ (flft κ′ q′) ⊛ ‵ ftrue) ∷ ‵ (fres (state .name) (T.the-row .coded .code (r .state))) ∷ []) ∵
       suffices ! _ (ends-at 𝓤 H A feed.ended stayed (feed.clauses 𝓤 H A mem run) W (((κ, (κ′, tt)), (q, (q′, tt)), tt, a, vals), tt) (answer r) (r .outcome) (r .state, (tt, tt)) (tt, (tt, tt))) $
-      says ! (record { told = λ i. e i .outcome; left = λ i. e i .state }) $ join ! $ frame ! $
+      says ! (record { answers = λ i. e i .outcome; leaves = λ i. e i .state }) $ join ! $ frame ! $
       nothing ! $ nothing ! $ fjoin ! $ move ! (1 ∷ 0 ∷ []) $ fjoin ! $ frame ! $ owned ! O.the-row (Is O.the-row) (EL.makes O.the-type O′.the-plain 𝓤 H A) (r .outcome) _ is $ done !
 
   module _ (C : Calls 𝓤 H) (Λ : Loops 𝓤 H) (fm : FmC 𝓤 H (W .laws) C) (known : Triple 𝓤 (C #digest·feed) (ByValue 𝓤 H A mem run)) where

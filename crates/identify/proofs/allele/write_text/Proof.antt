@@ -5,7 +5,7 @@ use borrow.Author.Needs.{needs}
 use Rattle.refusal.proofs.Sum.{place-within}
 use Rattle.refusal.proofs.Says.{says-short, says-tail}
 use Rattle.normal.specs.Stretches.{joined}
-use Rattle.identify.specs.Identifiers.{textOf}
+use Rattle.identify.specs.Identifier.{textOf}
 use Rattle.identify.proofs.Hashing.{allele-long, allele-room}
 use Rattle.identify.proofs.allele.write_text.Statement.{statement}
 use Rattle.identify.proofs.allele.write_text.Tie as tie

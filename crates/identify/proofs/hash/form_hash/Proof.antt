@@ -1,7 +1,7 @@
 -- The digest of its location, and its three stretches.
 use borrow.Author.Needs.{needs}
 use Rattle.normal.specs.Stretches.{joined}
-use Rattle.identify.specs.Identifiers.{textOf}
+use Rattle.identify.specs.Identifier.{textOf}
 use Rattle.identify.proofs.hash.form_hash.Statement.{statement}
 use Rattle.identify.proofs.hash.form_hash.Tie as tie
 
