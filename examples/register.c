@@ -36,12 +36,17 @@ static void tell(const char *call, fv_outcome o) {
         printf("done\n");
 }
 
-/* A long reference comes in parts; this one needn't. */
-static fv_written identify_reference(uint8_t *identifier) {
+/* A long reference comes in parts; this one needn't. A part that is refused ends it. */
+static fv_outcome identify_reference(uint8_t *identifier) {
+    static const size_t cuts[] = {0, 5, REFERENCE};
     fv_running state = fv_running_begin();
-    fv_running_feed(&state, bytes(reference), 5);
-    fv_running_feed(&state, bytes(reference + 5), REFERENCE - 5);
-    return fv_running_finish(&state, identifier, IDENTIFIER, 0);
+    for (int i = 0; i < 2; i++) {
+        fv_outcome o = fv_running_feed(&state, bytes(reference + cuts[i]), cuts[i + 1] - cuts[i]);
+        if (o.refusal != 0)
+            return o;
+    }
+    fv_written w = fv_running_finish(&state, identifier, IDENTIFIER, 0);
+    return (fv_outcome){w.refusal, w.value};
 }
 
 static void enter(uint8_t *image, const uint8_t *digest, uint64_t start, uint64_t end, const char *replacement) {
@@ -66,8 +71,8 @@ static void undo(uint8_t *image) {
 int main(void) {
     uint8_t image[IMAGE], identifier[IDENTIFIER];
     const uint8_t *digest = identifier + IDENTIFIER - DIGEST;
-    fv_written w = identify_reference(identifier);
-    if (refused(reference, w.refusal, w.value))
+    fv_outcome o = identify_reference(identifier);
+    if (refused(reference, o.refusal, o.value))
         return 1;
     printf("%.*s\n", IDENTIFIER, (const char *)identifier);
 

@@ -59,8 +59,9 @@ fv_written fv_sequence_identifier(const uint8_t *reference, size_t reference_len
 
 /*
  * The digest of a reference that comes in parts, under way. Whoever declares one owns it, may copy it and
- * may save its bytes; the calls below read and write the one that they are lent, which must be aligned as
- * C aligns it. Whatever it holds, no call faults.
+ * may save its bytes; the calls below read and write the one that they are lent. The pointer must not be
+ * null and must be aligned as C aligns it, and the state must not overlap a slice of the same call.
+ * Whatever it holds, no call faults.
  */
 typedef struct {
     uint64_t words[8];  /* SHA-512's hash value after the whole blocks */
@@ -116,9 +117,9 @@ typedef struct {
 /*
  * Answers the fully justified normal form of an allele, and writes its replacement from out[place] on.
  *
- * An allele puts a replacement in the place of the residues between two positions of a reference:
- * position 0 is before the first residue, reference_len after the last. The reference may be empty,
- * start and end may be equal (an insertion), and the replacement may be empty (a deletion).
+ * An allele puts a replacement in the place of the residues between two positions of a reference. A
+ * position lies between residues: 0 in front of the first, reference_len behind the last. The reference
+ * may be empty, start and end may be equal (an insertion), and the replacement may be empty (a deletion).
  *
  * The normal form is taken from the sequence that results: what that has in common with the reference
  * at either end is left out, but an insertion or a deletion that might stand at several places of a
@@ -141,7 +142,7 @@ typedef struct {
  *   6, value l    the normal replacement has l bytes, and `out` has fewer from `place` on, or `place`
  *                 is past its end.
  * No `start`, `end` or `place` is too large to be refused so. A call with an `out` of 0 bytes and
- * place 0 learns the length that is needed: from value where it is refused, and it is 0 where not.
+ * place 0 learns the length that is needed: value, where it is refused under 6, and 0 where it is accepted.
  *
  * With the reference `TCAGCAGCAGT`, start 4, end 4, the replacement `CAG`, place 0 and room for 12
  * bytes, the answer is { 0, 0, 2, 1, 10, 12 }, and `out` then holds
@@ -156,9 +157,9 @@ fv_form fv_normal_form(const uint8_t *reference, size_t reference_len, uint64_t 
  * sequence that has this digest and `reference_length` residues. It is the serialized form of
  * VRS 1.1.2, with no spaces:
  * {"interval":{"end":E,"start":T,"type":"SimpleInterval"},"sequence_id":"D","type":"SequenceLocation"}
- * where E and T are end and start in decimal, and D is the digest: 32 base64url characters (A to Z,
- * a to z, 0 to 9, - and _), without `ga4gh:SQ.` before them. The bytes of `out` before and after the
- * text stay as they were.
+ * where E stands for the end and T for the start, as decimals, and D is the digest: 32 base64url
+ * characters (A to Z, a to z, 0 to 9, - and _), without `ga4gh:SQ.` before them. The bytes of `out` before
+ * and after the text stay as they were.
  *
  * Accepted: { 0, 0, length }. Refused, in this order:
  *   1, value 0    reference_length is over 1,000,000,000;
@@ -248,8 +249,8 @@ typedef struct {
 } fv_location;
 
 /*
- * Reads a location text: the whole of `text`, laid out as fv_location_text writes it. T is at most E, E
- * at most 1,000,000,000, both without leading zeros, and D any 32 base64url characters. Nothing is
+ * Reads a location text: the whole of `text`, laid out as fv_location_text writes it. T is no more than E,
+ * E no more than 1,000,000,000, both without leading zeros, and D any 32 base64url characters. Nothing is
  * written.
  *
  * Accepted: { 0, 0, start, end, digest }. Refused:
@@ -325,7 +326,8 @@ fv_allele fv_read_allele(const uint8_t *text, size_t text_len);
  * No number is too large to be refused so.
  *
  * With reference_length 11, the digest of `TCAGCAGCAGT`, which is `zR7HujP8jYfpROv-hBLZMHuR_5P4Zo0q`, and the
- * capacities 2, 3 and 15, the journal begins at 116 and the pool at 128, and 143 bytes are needed.
+ * capacities 2, 3 and 15, the journal begins at 116 and the pool at 128. 143 bytes are needed: with an
+ * image_len of 142 the answer is { 9, 143 }, with 143 it is { 0, 0 }.
  */
 fv_outcome fv_blank(uint8_t *image, size_t image_len, uint64_t reference_length,
                     const uint8_t *digest, size_t digest_len,
@@ -355,7 +357,7 @@ typedef struct {
  * Accepted: { 0, 0, answer, number }. Refused, in this order:
  *   10, value 0   the image is not well formed;
  *   11, value 0   the digest is not the header's 32 bytes;
- *   11, value 1   the reference has another length than the header says;
+ *   11, value 1   the reference has another length than the header says, as one over 1,000,000,000 has;
  *   1, value 1    the replacement has over 1,000,000 bytes;
  *   2, value 0    start is above end;
  *   3, value n    end is above n, the length of the reference;

@@ -1,6 +1,6 @@
 # shellcheck shell=sh disable=SC2034
 # How a program for x86-64 is built and run on this machine with the kit's own tools. Sourced by run,
-# tests/run and bench/run, in the repository's root.
+# install, tests/run and bench/run, in the repository's root.
 
 kit=$(dirname "$(dirname "$(rt doc)")")
 tools=$kit/on/$(uname -m)/toolchain
@@ -38,7 +38,7 @@ execute() {
 # is then the words that start it.
 build() {
     if [ "$(uname -m)" = x86_64 ]; then
-        cc -std=c11 -O2 -Wall -Wextra -Werror -I"$prefix/include" -o "$1" "$2" "$prefix/lib/libfearnavult.a"
+        gcc -std=c11 -O2 -Wall -Wextra -Werror -I"$prefix/include" -o "$1" "$2" "$prefix/lib/libfearnavult.a"
         started=$1
     else
         compile "$2" "$1.o" -O2 -Itests/libc

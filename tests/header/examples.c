@@ -41,13 +41,15 @@ static int answered(fv_outcome o, uint64_t refusal, uint64_t value) {
 }
 
 static void sequences(void) {
-    fv_running state = fv_running_begin();
+    fv_running state = fv_running_begin(), kept;
     expect("fv_sequence_identifier", wrote(fv_sequence_identifier(TEXT("ACGT"), out, sizeof out, 0),
                                            "ga4gh:SQ.aKF498dAxcJAqme6QYQ7EZ07-fiw8Kw2"));
     expect("fv_running_begin", wrote(fv_running_finish(&state, out, sizeof out, 0),
                                      "ga4gh:SQ.z4PhNX7vuL3xVChQ1m2AB9Yg5AULVxXc"));
     expect("fv_running_feed", answered(fv_running_feed(&state, TEXT("AC")), 0, 0));
-    expect("fv_running_feed", answered(fv_running_feed(&state, TEXT("G-")), 4, 1));
+    kept = state;
+    expect("fv_running_feed", answered(fv_running_feed(&state, TEXT("G-")), 4, 1)
+                              && memcmp(&state, &kept, sizeof state) == 0);
     expect("fv_running_feed", answered(fv_running_feed(&state, TEXT("GT")), 0, 0));
     expect("fv_running_finish", wrote(fv_running_finish(&state, out, sizeof out, 0),
                                       "ga4gh:SQ.aKF498dAxcJAqme6QYQ7EZ07-fiw8Kw2"));
@@ -82,12 +84,16 @@ static int allele_is(fv_allele a, uint64_t refusal, uint64_t value, uint64_t loc
 }
 
 static void texts_read(void) {
+    uint8_t other[122];
+    memcpy(other, ALLELE, sizeof other);
+    other[121] = ' ';
     expect("fv_read_location", location_is(fv_read_location(TEXT(LOCATION)), 0, 0, 1, 10, 72));
     expect("fv_read_location", location_is(fv_read_location(
         TEXT("{\"interval\":{\"end\":10,\"start\":11,\"type\":\"SimpleInterval\"},"
              "\"sequence_id\":\"" DIGEST "\",\"type\":\"SequenceLocation\"}")), 8, 31, 0, 0, 0));
     expect("fv_read_allele", allele_is(fv_read_allele(TEXT(ALLELE)), 0, 0, 13, 68, 12));
     expect("fv_read_allele", allele_is(fv_read_allele((const uint8_t *)ALLELE, 121), 8, 121, 0, 0, 0));
+    expect("fv_read_allele", allele_is(fv_read_allele(other, sizeof other), 8, 121, 0, 0, 0));
 }
 
 static int entered(uint8_t *image, uint64_t start, uint64_t end, const char *replacement, uint64_t answer) {
