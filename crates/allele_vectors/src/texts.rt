@@ -62,7 +62,7 @@ fn laid_text_line(location: &[u8], replacement: &[u8], laid: &[u8]) {
 fn laid_identifier_line(location: &[u8], replacement: &[u8], laid: &[u8]) {
     let mut space = [0u8; ROOM];
     let hash = sha512::of_message(laid);
-    let answer = digest::place_identifier(&mut space, 0, b"ga4gh:VA.", &hash);
+    let answer = encoding::place_identifier(&mut space, 0, b"ga4gh:VA.", &hash);
     two(b"laid-allele-identifier ", location, replacement);
     written_text(&space, 0, answer);
     text(b"\n");

@@ -18,7 +18,8 @@ use Rattle.letters.proofs.Outside.{foreign-le, foreign-none, firstOutside-every
 use Rattle.sha512.specs.declared.Running.{Running}
 use Rattle.sha512.specs.Parts.{begun, joined}
 use Rattle.sha512.proofs.Join.{Fed, fed-begun, fed-on, finished-is}
-use Rattle.digest.specs.Identifier.{sha512t24u, sequenceIdentifier}
+use Rattle.encoding.specs.Digest.{sha512t24u}
+use Rattle.digest.specs.Identifier.{sequenceIdentifier}
 use Rattle.digest.specs.Calls.{partGrounds, feeding, feedingAll, AllTaken, Identifies, Finishes}
 
 -- a state of so many residues, within the limit

@@ -1,4 +1,2 @@
-pub mod Characters
 pub mod Cut
-pub mod Encoding
 pub mod Promises

@@ -12,7 +12,8 @@ use Rattle.refusal.specs.declared.Written.{Written}
 use Rattle.letters.specs.Letters.{foreign}
 use Rattle.sha512.specs.declared.Running.{Running}
 use Rattle.sha512.specs.Parts.{fed, finished}
-use Rattle.digest.specs.Identifier.{digestText, sequencePrefix, sequenceIdentifier}
+use Rattle.encoding.specs.Digest.{digestText}
+use Rattle.digest.specs.Identifier.{sequencePrefix, sequenceIdentifier}
 use Rattle.digest.specs.declared.Fed.{Fed}
 
 -- a whole reference's identifier: 1, 4, 6

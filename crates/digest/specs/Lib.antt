@@ -1,3 +1,2 @@
-pub mod Base64
 pub mod Identifier
 pub mod Calls

@@ -1,16 +1,10 @@
-// Sequence digests: sha512t24u, the identifier of a whole reference, and the running digest, by value,
-// of one that comes in parts. Crate `running` lends the state; `locations` and `identify` write their
-// identifiers by this one.
+// Sequence digests: the identifier of a whole reference, and the running digest, by value, of one that
+// comes in parts. Crate `running` lends the state.
 //
-// specs/Base64.antt and specs/Identifier.antt have the identifier, specs/Calls.antt what the calls
-// promise.
-mod base64;
+// specs/Identifier.antt has the identifier, specs/Calls.antt what the calls promise.
 mod identifier;
 mod running;
 
-pub use base64::group_of;
-pub use base64::write_digest_text;
-pub use identifier::place_identifier;
 pub use identifier::sequence_identifier;
 use refusal::Outcome;
 pub use running::begin;

@@ -2,7 +2,7 @@
 use super::Fed;
 use super::identifier::IDENTIFIER_LENGTH;
 use super::identifier::SEQUENCE_PREFIX;
-use super::identifier::place_identifier;
+use encoding::place_identifier;
 use letters::first_foreign;
 use refusal::FOREIGN_BYTE;
 use refusal::OUTPUT_TOO_SHORT;

@@ -1,4 +1,3 @@
 pub mod EntryTests
 pub mod Finding
 pub mod Promises
-pub mod Stretched

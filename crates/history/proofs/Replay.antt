@@ -6,7 +6,7 @@ use mathlib.Core.List.{List, [], _∷_}
 use lib.Dec.{eqb}
 use borrow.Author.Tests.{eqb-true}
 use Rattle.stretch.specs.Same.{same}
-use Rattle.stretch.proofs.Same.{same-refl, same-eq}
+use Rattle.stretch.proofs.Same.{same-refl, same-eq, same-unlike}
 use Rattle.stretch.proofs.Cases.{by-cases}
 use Rattle.history.specs.Events.{Event, Change, added, removed, meant, replayed}
 use Rattle.history.proofs.View.{View}
@@ -23,9 +23,6 @@ pub record Holds (v : View) (status : ℕ → ℕ) (i : ℕ) (t : List ℕ) : Ty
 pub record SomeHolds (v : View) (status : ℕ → ℕ) (t : List ℕ) : Type 0 where
   pub number : ℕ
   pub holds : Holds v status number t
-
-same-unlike : (a b : List ℕ) → (a ≡ b → ⊥) → same a b ≡ false
-same-unlike a b n = by-cases (same a b) (λ e. absurd (n (same-eq a b e))) (λ e. e)
 
 module _ (h : List Event) (v : View) (numbers : Numbers h v) where
   -- a change puts in or takes out what its number stands for

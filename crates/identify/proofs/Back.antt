@@ -22,9 +22,9 @@ use Rattle.reading.specs.declared.AlleleRead.{AlleleRead}
 use Rattle.reading.specs.declared.AlleleRead.the-variants.{Accepted}
 use Rattle.reading.specs.Accepted.{AlleleText, ReadsAllele, HandsBack}
 use Rattle.reading.proofs.Promises.{reads-allele-back, location-of-back, sequence-of-back}
-use Rattle.digest.specs.Identifier.{sha512t24u}
-use Rattle.digest.proofs.Encoding.{length-sha512t24u}
-use Rattle.digest.proofs.Characters.{digest-characters}
+use Rattle.encoding.specs.Digest.{sha512t24u}
+use Rattle.encoding.proofs.Encoding.{length-sha512t24u}
+use Rattle.encoding.proofs.Characters.{digest-characters}
 use Rattle.identify.specs.Identifier.{textOf}
 use Rattle.identify.specs.Calls.{alleleGrounds, SaysAllele}
 

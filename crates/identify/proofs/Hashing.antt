@@ -11,14 +11,14 @@ use Rattle.refusal.proofs.Sum.{tail-room}
 use Rattle.normal.specs.declared.Stretches.{Stretches}
 use Rattle.normal.specs.Form.{Normal}
 use Rattle.normal.specs.Stretches.{Fits, joined as joinedStretches, formIn}
-use Rattle.normal.proofs.Joined.{length-joined}
+use Rattle.normal.proofs.Joined.{length-joined, stretches-long}
 use Rattle.text.specs.Layout.{locationText, alleleText, beforeLocation, beforeSequence, behindSequence}
 use Rattle.text.proofs.Layouts.{length-allele}
 use Rattle.sha512.specs.Message.{sha512}
 use Rattle.sha512.specs.Parts.{begun, joined, fedAll, finished}
 use Rattle.sha512.proofs.Join.{parts-join}
-use Rattle.digest.specs.Identifier.{sha512t24u}
-use Rattle.digest.proofs.Encoding.{length-sha512t24u}
+use Rattle.encoding.specs.Digest.{sha512t24u}
+use Rattle.encoding.proofs.Encoding.{length-sha512t24u}
 use Rattle.identify.specs.Identifier.{textOf, identifierOf}
 
 abbrev pieces : List ℕ → List ℕ → List ℕ → List ℕ → List (List ℕ)
@@ -54,15 +54,11 @@ module _ (r : List ℕ) (start end : ℕ) (x : List ℕ) (w : Stretches) (f : Fi
 
   pub allele-room : (location out : List ℕ) (place : ℕ) → length location ≡ 32 → ltb (length out) (place + (n + 110)) ≡ false
       → length location + (length (part r (w .left) start) + (length (part x (w .from) (w .to)) + (length (part r end (w .right)) + 78))) ≤ length (take (length out - place) (drop place out))
-  unfolding joinedStretches
   allele-room location out place e t =
       let a = length (part r (w .left) start) in
       let b = length (part x (w .from) (w .to)) in
       let c = length (part r end (w .right)) in
-      let pieces : a + (b + c) ≡ n
-      = sym (long ∙ length-append (part r (w .left) start) (part x (w .from) (w .to) ++ part r end (w .right))
-      ∙ ap (λ (k : ℕ). a + k) (length-append (part x (w .from) (w .to)) (part r end (w .right)))) in
-      added (length location) a b c n (length (take (length out - place) (drop place out))) e pieces (tail-room out place (n + 110) t)
+      added (length location) a b c n (length (take (length out - place) (drop place out))) e (sym (stretches-long r start end x w f n sum)) (tail-room out place (n + 110) t)
     where
       added : (l a b c n room : ℕ) → l ≡ 32 → a + (b + c) ≡ n → n + 110 ≤ room → l + (a + (b + (c + 78))) ≤ room
       added l a b c n room e s h = omega arith

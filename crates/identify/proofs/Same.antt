@@ -3,11 +3,11 @@ use Prim.Native.Nat.{ℕ}
 use native.Mathlib.Omega.{arith}
 use mathlib.Core.Logic.{_⊎_, inl, inr}
 use mathlib.Core.Path.{_≡_, refl, _∙_, sym, ap}
-use mathlib.Core.Bool.{true, false}
+use mathlib.Core.Bool.{false}
 use mathlib.Core.List.{List}
 use Rattle.stretch.specs.Same.{same}
 use Rattle.stretch.proofs.Cases.{by-cases}
-use Rattle.stretch.proofs.Same.{same-refl, same-eq}
+use Rattle.stretch.proofs.Same.{same-eq, same-apart}
 use Rattle.normal.specs.Form.{Allele, Normal, altered, normal}
 use Rattle.normal.proofs.Laws.{normal-ordered, normal-inside, one-altered, one-form}
 use Rattle.text.specs.Layout.{locationText}
@@ -15,8 +15,8 @@ use Rattle.text.proofs.Layouts.{allele-same}
 use Rattle.words.specs.Vocabulary.{Digest}
 use Rattle.reading.specs.Accepted.{LocationText}
 use Rattle.reading.proofs.LocationTexts.{location-start, location-end}
-use Rattle.digest.specs.Identifier.{sha512t24u}
-use Rattle.digest.proofs.Encoding.{length-sha512t24u}
+use Rattle.encoding.specs.Digest.{sha512t24u}
+use Rattle.encoding.proofs.Encoding.{length-sha512t24u}
 use Rattle.identify.specs.Identifier.{textOf, Collision}
 
 module _ (r : List ℕ) (s₁ e₁ : ℕ) (x₁ : List ℕ) (s₂ e₂ : ℕ) (x₂ digest : List ℕ) where
@@ -60,7 +60,4 @@ module _ (r : List ℕ) (s₁ e₁ : ℕ) (x₁ : List ℕ) (s₂ e₂ : ℕ) (x
         let l = located s₁ e₁ x₁ a₁ (place one) refl in
         let m = located s₂ e₂ x₂ a₂ (place one) q in
         inl (one-altered r s₁ e₁ x₁ s₂ e₂ x₂ (location-start (place one) l m) (location-end (place one) l m) (parts e .1)))
-        (λ t. inr (record { apart = λ q. unlike t q; one = parts e .0 }))
-      where
-        unlike : same (place one) (place other) ≡ false → place one ≡ place other → ⊥
-        unlike t q = let z : false ≡ true = sym t ∙ rw (← q) (same-refl (place one)) in let w : _≡_ {A = ℕ} 0 1 = cc in omega arith
+        (λ t. inr (record { apart = same-apart (place one) (place other) t; one = parts e .0 }))

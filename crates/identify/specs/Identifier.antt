@@ -5,7 +5,7 @@ use mathlib.Core.List.{List, _++_}
 use Rattle.stretch.specs.Ascii.{ascii}
 use Rattle.normal.specs.Form.{Normal}
 use Rattle.text.specs.Layout.{locationText, alleleText}
-use Rattle.digest.specs.Identifier.{sha512t24u}
+use Rattle.encoding.specs.Digest.{sha512t24u}
 
 -- the text of a normal form, on a sequence of that digest: its location's digest, and its replacement
 unfoldable pub textOf : Normal → List ℕ → List ℕ

@@ -1,6 +1,6 @@
 // The text and the identifier of an allele, in its normal form.
 use super::hash::form_hash;
-use digest::place_identifier;
+use encoding::place_identifier;
 use forming::Located;
 use forming::clean;
 use forming::locate;

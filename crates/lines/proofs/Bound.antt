@@ -16,10 +16,10 @@ use Rattle.normal.specs.Form.{Normal, normal}
 use Rattle.normal.proofs.Laws.{normal-ordered, normal-inside, normal-short}
 use Rattle.forming.specs.Calls.{formGrounds}
 use Rattle.forming.proofs.Answers.{clean-allele}
-use Rattle.text.specs.declared.Number.{Number}
-use Rattle.text.specs.declared.Number.the-variants.{Is, Absent}
-use Rattle.text.specs.Number.{numberOf}
-use Rattle.text.proofs.Digits.{decimal-within}
+use Rattle.decimals.specs.declared.Number.{Number}
+use Rattle.decimals.specs.declared.Number.the-variants.{Is, Absent}
+use Rattle.decimals.specs.Number.{numberOf}
+use Rattle.decimals.proofs.Digits.{decimal-within}
 use Rattle.saying.specs.Cut.{parted, onFirst}
 use Rattle.saying.specs.Said.{Said, unread, allele, space, replacementOf, numbered, saidBy, said}
 use Rattle.lines.specs.Answers.{shown, formReply, verdictText, saidText, answerLine}

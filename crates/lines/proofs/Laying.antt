@@ -15,8 +15,8 @@ use Rattle.refusal.specs.declared.Written.the-variants.{Bytes, Refused}
 use Rattle.refusal.proofs.Writes.{writes-nothing, writes-all}
 use Rattle.normal.specs.declared.Kind.{Kind}
 use Rattle.normal.specs.declared.Kind.the-variants.{Unchanged, Substitution, Indel}
-use Rattle.text.specs.Decimal.{decimal}
-use Rattle.text.proofs.Digits.{decimal-within}
+use Rattle.decimals.specs.Decimal.{decimal}
+use Rattle.decimals.proofs.Digits.{decimal-within}
 use Rattle.lines.specs.Answers.{word, Puts}
 
 pub number-short : (n b : ℕ) → n < 2 ^ 64 → length (decimal n ++ (b ∷ [])) ≤ 21

@@ -6,8 +6,8 @@ use Rattle.stretch.specs.Same.{same}
 use Rattle.letters.specs.Letters.{residue, firstOutside}
 use Rattle.normal.specs.Form.{altered, shorter, within, ahead, behind, kindIn, kindOf, changedForm, normal}
 use Rattle.forming.specs.Calls.{formGrounds}
-use Rattle.text.specs.Decimal.{decimalIn, enough, decimal}
-use Rattle.text.specs.Number.{valueFrom, value, numberOf}
+use Rattle.decimals.specs.Decimal.{decimalIn, enough, decimal}
+use Rattle.decimals.specs.Number.{valueFrom, value, numberOf}
 use Rattle.saying.specs.Cut.{parted}
 use Rattle.saying.specs.Said.{replacementOf, said}
 use Rattle.lines.specs.Answers.{answerLine, output}

@@ -10,7 +10,7 @@ use Rattle.normal.specs.declared.Kind.{Kind}
 use Rattle.normal.specs.declared.Kind.the-variants.{Unchanged, Substitution, Indel}
 use Rattle.normal.specs.Form.{Normal, normal}
 use Rattle.forming.specs.Calls.{formGrounds}
-use Rattle.text.specs.Decimal.{decimal}
+use Rattle.decimals.specs.Decimal.{decimal}
 use Rattle.saying.specs.Cut.{parted}
 use Rattle.saying.specs.Said.{Said, unread, allele, said, space, lineFeed}
 

@@ -5,7 +5,7 @@ use mathlib.Core.List.{List, [], _∷_, _++_}
 use lib.Dec.{eqb}
 use Rattle.stretch.specs.Ascii.{ascii}
 use Rattle.normal.specs.declared.Kind.{Kind}
-use Rattle.text.specs.Decimal.{decimal}
+use Rattle.decimals.specs.Decimal.{decimal}
 use Rattle.saying.specs.Said.{space, lineFeed}
 use Rattle.lines.specs.Answers.{word}
 

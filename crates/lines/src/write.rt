@@ -1,4 +1,5 @@
 // The parts of an answer, laid one behind the other.
+use decimals::put_decimal;
 use normal::Kind;
 use refusal::OUTPUT_TOO_SHORT;
 use refusal::Written;
@@ -6,12 +7,11 @@ use refusal::refuse;
 use stretch::copy;
 use stretch::put;
 use stretch::put_three;
-use text::put_decimal;
 ghost use mathlib.Core.List.{_++_, _∷_, []};
 ghost use Prim.Native.Nat.{_+_, _≤_, _^_, _<_};
 ghost use lib.ListN.{length};
 ghost use Rattle.stretch.specs.Over.{Wrote};
-ghost use Rattle.text.specs.Decimal.{decimal};
+ghost use Rattle.decimals.specs.Decimal.{decimal};
 ghost use Rattle.saying.specs.Said.{lineFeed};
 ghost use Rattle.lines.specs.Answers.{word, Puts};
 ghost use Rattle.lines.specs.Parts.{head, refusedLine};

@@ -12,7 +12,7 @@ use Rattle.refusal.specs.Verdict.{accepted, verdict}
 use Rattle.refusal.proofs.Verdict.{none-holds, verdict-fewer, verdict-later}
 use Rattle.refusal.proofs.Says.{Said, says-said}
 use Rattle.letters.specs.Letters.{digestTextGrounds}
-use Rattle.text.specs.Decimal.{decimal}
+use Rattle.decimals.specs.Decimal.{decimal}
 use Rattle.text.specs.Layout.{locationText, beforeEnd, beforeStart, beforeDigest}
 use Rattle.words.specs.Vocabulary.{Digest}
 use Rattle.reading.specs.declared.LocationRead.{LocationRead}

@@ -4,11 +4,11 @@ use native.Mathlib.Omega.{arith}
 use mathlib.Core.Path.{_≡_}
 use mathlib.Core.List.{List}
 use lib.ListN.{length}
-use Rattle.text.specs.Decimal.{decimal}
+use Rattle.decimals.specs.Decimal.{decimal}
 use Rattle.text.specs.Layout.{locationText}
-use Rattle.text.proofs.Digits.{decimal-within}
+use Rattle.decimals.proofs.Digits.{decimal-within}
 use Rattle.text.proofs.Layouts.{length-location}
-use Rattle.digest.proofs.Encoding.{length-sha512t24u}
+use Rattle.encoding.proofs.Encoding.{length-sha512t24u}
 use Rattle.locations.specs.Identifier.{locationIdentifier}
 
 -- two numbers of 64 bits and a digest

@@ -3,7 +3,7 @@ use Prim.Native.Nat.{ℕ}
 use mathlib.Core.List.{List, _++_}
 use Rattle.stretch.specs.Ascii.{ascii}
 use Rattle.text.specs.Layout.{locationText}
-use Rattle.digest.specs.Identifier.{sha512t24u}
+use Rattle.encoding.specs.Digest.{sha512t24u}
 
 -- 42 bytes, over the location text
 unfoldable pub locationIdentifier : ℕ → ℕ → List ℕ → List ℕ

@@ -1,10 +1,10 @@
 // The hash of a location text, and its digest.
-use digest::write_digest_text;
+use encoding::write_digest_text;
 use text::write_location;
 ghost use mathlib.Core.Path.{_≡_};
 ghost use lib.ListN.{length};
 ghost use Rattle.sha512.specs.Message.{sha512};
-ghost use Rattle.digest.specs.Identifier.{sha512t24u};
+ghost use Rattle.encoding.specs.Digest.{sha512t24u};
 ghost use Rattle.text.specs.Layout.{locationText};
 
 // Room for a location text with two numbers of 20 digits.

@@ -1,6 +1,7 @@
 // The text and the identifier of a location on a reference of so many residues.
 use super::hash::location_hash;
-use digest::place_identifier;
+use decimals::decimal_length;
+use encoding::place_identifier;
 use letters::check_digest_text;
 use refusal::END_ABOVE_REFERENCE;
 use refusal::OUTPUT_TOO_SHORT;
@@ -11,7 +12,6 @@ use refusal::START_ABOVE_END;
 use refusal::Written;
 use refusal::refuse;
 use refusal::sum_exceeds;
-use text::decimal_length;
 use text::write_location;
 ghost use mathlib.Core.Path.{_≡_};
 ghost use mathlib.Core.List.{[]};

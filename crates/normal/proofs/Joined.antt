@@ -1,11 +1,12 @@
 -- Three stretches as one text: its length, and its first foreign byte.
 use Prim.Native.Nat.{ℕ, _+_, _-_, _<_, _≤_}
 use native.Mathlib.Omega.{arith}
-use mathlib.Core.Path.{_≡_, _∙_, sym, ap}
+use mathlib.Core.Path.{_≡_, refl, _∙_, sym, ap}
 use mathlib.Core.List.{List, _++_}
 use lib.ListN.{length, length-append}
 use Rattle.stretch.specs.Part.{part}
 use Rattle.stretch.proofs.Interval.{length-part}
+use Rattle.stretch.proofs.Join.{length-three}
 use Rattle.letters.specs.Letters.{residue, foreign}
 use Rattle.letters.proofs.Outside.{foreign-le, foreign-none, firstOutside-past, firstOutside-within}
 use Rattle.normal.specs.declared.Stretches.{Stretches}
@@ -20,6 +21,14 @@ length-joined r start end x w f =
     let three : length (part r end (w .right)) ≡ w .right - end = length-part r end (w .right) (f .after) (f .inside) in
     sym (length-append (part r (w .left) start) (part x (w .from) (w .to) ++ part r end (w .right))
     ∙ rw (length-append (part x (w .from) (w .to)) (part r end (w .right)), one, two, three) (omega arith))
+
+-- stretch by stretch, as the code sums it up
+pub stretches-long : (r : List ℕ) (start end : ℕ) (x : List ℕ) (w : Stretches) → Fits r start end x w → (n : ℕ)
+    → n ≡ start - w .left + (w .to - w .from) + (w .right - end)
+    → n ≡ length (part r (w .left) start) + (length (part x (w .from) (w .to)) + length (part r end (w .right)))
+unfolding joined
+stretches-long r start end x w f n e =
+    e ∙ length-joined r start end x w f ∙ length-three (part r (w .left) start) (part x (w .from) (w .to)) (part r end (w .right)) _ refl
 
 module _ (a b c : List ℕ) where
   pub foreign-first : foreign a < length a → foreign a ≡ foreign (a ++ (b ++ c))

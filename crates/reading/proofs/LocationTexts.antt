@@ -7,15 +7,16 @@ use mathlib.Core.Bool.{true, false}
 use mathlib.Core.List.{List, [], _++_, append-cancel-left}
 use lib.ListN.{length, replicate}
 use Rattle.stretch.specs.Part.{part}
+use Rattle.stretch.proofs.Join.{append-same}
 use Rattle.refusal.specs.Limits.{referenceLimit}
-use Rattle.text.specs.Decimal.{decimal}
+use Rattle.decimals.specs.Decimal.{decimal}
 use Rattle.text.specs.Layout.{beforeEnd, beforeStart, beforeDigest, behindDigest, locationText}
-use Rattle.text.specs.Number.{value}
-use Rattle.text.proofs.Reading.{value-decimal, decimal-injective}
+use Rattle.decimals.specs.Number.{value}
+use Rattle.decimals.proofs.Reading.{value-decimal, decimal-injective}
 use Rattle.words.specs.declared.Walk.{Walk}
 use Rattle.words.specs.Vocabulary.{Word, Digest, DecimalTo}
 use Rattle.words.specs.Walk.{Onward, Counts}
-use Rattle.words.proofs.Following.{Then, Done, Apart, Open, one-way, word-then, then-is, front-same, open-done, open-then}
+use Rattle.words.proofs.Following.{Then, Done, Apart, Open, one-way, word-then, then-is, open-done, open-then}
 use Rattle.words.proofs.Vocabulary.{decimal-to, some-digest, apart-decimal, apart-digest}
 use Rattle.words.proofs.Reach.{Reach, reach-begun, reach-onward, reach-word, reach-all, reach-end, on-before, onward-length}
 use Rattle.reading.specs.declared.LocationRead.the-variants.{Accepted, Refused}
@@ -199,4 +200,4 @@ module _ (text : List ℕ) (a b : LocationText text) where
 
   pub location-digest : a .digest ≡ b .digest
   location-digest =
-      front-same (a .digest) behindDigest (b .digest) behindDigest (append-cancel-left beforeDigest _ _ (starts .1)) (a .digests .long ∙ sym (b .digests .long))
+      append-same (a .digest) (b .digest) behindDigest behindDigest (a .digests .long ∙ sym (b .digests .long)) (append-cancel-left beforeDigest _ _ (starts .1)) .0

@@ -7,7 +7,7 @@ use lib.ListN.{length, length-append}
 use Rattle.stretch.specs.Part.{part}
 use Rattle.refusal.specs.Limits.{referenceLimit, sequenceLimit}
 use Rattle.refusal.specs.declared.Refusal.{Refusal}
-use Rattle.text.specs.Decimal.{decimal}
+use Rattle.decimals.specs.Decimal.{decimal}
 use Rattle.text.specs.Layout.{beforeEnd, beforeStart, beforeDigest, behindDigest, locationText, beforeLocation, beforeSequence, behindSequence, alleleText}
 use Rattle.words.specs.Vocabulary.{Digest, Letters}
 use Rattle.words.proofs.Following.{longest-once}

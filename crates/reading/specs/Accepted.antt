@@ -4,7 +4,7 @@ use mathlib.Core.Path.{_≡_}
 use mathlib.Core.List.{List, []}
 use lib.ListN.{length}
 use Rattle.refusal.specs.Limits.{referenceLimit, sequenceLimit}
-use Rattle.text.specs.Decimal.{decimal}
+use Rattle.decimals.specs.Decimal.{decimal}
 use Rattle.text.specs.Layout.{beforeEnd, beforeStart, beforeDigest, locationText, beforeLocation, beforeSequence, alleleText}
 use Rattle.words.specs.Prefix.{Refuses}
 use Rattle.words.specs.Vocabulary.{Digest, Letters}

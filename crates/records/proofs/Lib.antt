@@ -1,6 +1,5 @@
 pub mod Lowest
 pub mod Joined
 pub mod Held
-pub mod Three
 pub mod Rows
 pub mod Does

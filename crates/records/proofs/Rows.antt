@@ -5,6 +5,7 @@ use mathlib.Core.Path.{_≡_, refl, _∙_, sym, ap}
 use mathlib.Core.List.{List, [], _∷_, _++_, append-assoc, append-nil}
 use lib.ListN.{length, take, drop}
 use Rattle.stretch.specs.Over.{over}
+use Rattle.stretch.proofs.Join.{length-three}
 use Rattle.stretch.proofs.Over.{over-next, over-tail}
 use Rattle.forming.specs.declared.Form.{Form}
 use Rattle.image.specs.Numbers.{numbers, put, bytes}
@@ -13,7 +14,6 @@ use Rattle.image.proofs.Patched.{length-numbers}
 use Rattle.image.proofs.Numbers.{length-bytes}
 use Rattle.records.specs.Changes.{blanked, journalled, recorded, pooled, counted, numbered}
 use Rattle.records.specs.Lookup.{asked}
-use Rattle.records.proofs.Three.{length-three}
 
 numbers-append : (us vs : List ℕ) → numbers (us ++ vs) ≡ numbers us ++ numbers vs
 unfolding numbers

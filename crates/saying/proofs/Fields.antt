@@ -13,7 +13,7 @@ use Rattle.stretch.specs.Part.{part}
 use Rattle.stretch.specs.Same.{same}
 use Rattle.stretch.proofs.Same.{same-lengths}
 use Rattle.letters.proofs.Outside.{firstOutside-le}
-use Rattle.text.specs.Number.{numberOf}
+use Rattle.decimals.specs.Number.{numberOf}
 use Rattle.saying.specs.declared.Line.the-variants.{Unread}
 use Rattle.saying.specs.Cut.{parted, other, firstOf, nextOf}
 use Rattle.saying.specs.Said.{unread, space, replacementOf, numbered, saidBy, said, Tells}

@@ -6,9 +6,9 @@ use mathlib.Core.List.{List, [], _∷_}
 use lib.ListN.{length, drop}
 use Rattle.stretch.specs.Ascii.{ascii}
 use Rattle.stretch.specs.Same.{same}
-use Rattle.text.specs.declared.Number.{Number}
-use Rattle.text.specs.declared.Number.the-variants.{Is, Absent}
-use Rattle.text.specs.Number.{numberOf}
+use Rattle.decimals.specs.declared.Number.{Number}
+use Rattle.decimals.specs.declared.Number.the-variants.{Is, Absent}
+use Rattle.decimals.specs.Number.{numberOf}
 use Rattle.saying.specs.declared.Line.{Line}
 use Rattle.saying.specs.declared.Line.the-variants.{Allele, Unread}
 use Rattle.saying.specs.Cut.{parted}

@@ -1,6 +1,6 @@
 // SHA-512 (FIPS 180-4) of a message that comes whole or in parts, over the compression of its blocks.
-// Crates `digest`, `locations` and `identify` stand on it. specs/ has the standard's padding and
-// digest; proofs/Join.antt the law that parts fed one after another and finished give the digest of
+// Crates `encoding`, `digest`, `locations` and `identify` stand on it. specs/ has the standard's padding
+// and digest; proofs/Join.antt the law that parts fed one after another and finished give the digest of
 // their join.
 mod big_endian;
 mod last_block;

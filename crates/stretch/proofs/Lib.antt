@@ -3,6 +3,7 @@ pub mod BigEndian
 pub mod Cases
 pub mod Common
 pub mod Interval
+pub mod Join
 pub mod Over
 pub mod Same
 pub mod Shared

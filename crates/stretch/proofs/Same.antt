@@ -1,12 +1,13 @@
--- Whether two stretches are one, and what follows where they are.
-use Prim.Native.Nat.{ℕ, suc}
-use mathlib.Core.Path.{_≡_, refl, ap}
-use mathlib.Core.Bool.{Bool, true, false, cond}
+-- Whether two stretches are one, and what follows where they are and where they are not.
+use Prim.Native.Nat.{ℕ}
+use mathlib.Core.Path.{_≡_, refl, sym, _∙_, ap}
+use mathlib.Core.Bool.{Bool, true, false, cond, false≢true}
 use mathlib.Core.List.{List, [], _∷_}
 use lib.Dec.{eqb}
 use lib.ListN.{length}
 use borrow.Author.Tests.{eq-eqb, eqb-true}
 use Rattle.stretch.specs.Same.{same}
+use Rattle.stretch.proofs.Cases.{by-cases}
 
 pub same-refl : (a : List ℕ) → same a a ≡ true
 unfolding same
@@ -24,13 +25,11 @@ same-eq [] (y ∷ b) h = cc
 same-eq (x ∷ a) [] h = cc
 same-eq (x ∷ a) (y ∷ b) h = cons-eq x y a b (eqb x y) refl (same-eq a b) h
 
-cond-same : (t : Bool) → cond t false false ≡ false
-cond-same true = refl
-cond-same false = refl
+pub same-apart : (a b : List ℕ) → same a b ≡ false → a ≡ b → ⊥
+same-apart a b t e = false≢true (sym t ∙ rw (← e) (same-refl a))
+
+pub same-unlike : (a b : List ℕ) → (a ≡ b → ⊥) → same a b ≡ false
+same-unlike a b n = by-cases (same a b) (λ e. absurd (n (same-eq a b e))) (λ e. e)
 
 pub same-lengths : (a b : List ℕ) → (length a ≡ length b → ⊥) → same a b ≡ false
-unfolding same
-same-lengths [] [] h = absurd (h refl)
-same-lengths [] (y ∷ b) h = refl
-same-lengths (x ∷ a) [] h = refl
-same-lengths (x ∷ a) (y ∷ b) h = rw (same-lengths a b (λ e. h (ap suc e))) (cond-same (eqb x y))
+same-lengths a b n = same-unlike a b (λ e. n (ap length e))

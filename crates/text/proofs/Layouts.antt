@@ -1,11 +1,11 @@
 -- The two texts: the pieces that they are written in, their lengths, and the parts of one allele text.
 use Prim.Native.Nat.{ℕ, _+_}
 use native.Mathlib.Omega.{arith}
-use mathlib.Core.Path.{_≡_, _∙_, sym, ap}
+use mathlib.Core.Path.{_≡_, ap}
 use mathlib.Core.List.{List, _++_, append-assoc}
-use lib.ListN.{length, take, drop, length-append}
-use lib.Seq.{take-append-seam, drop-append-seam, take-at, drop-at}
-use Rattle.text.specs.Decimal.{decimal}
+use lib.ListN.{length, drop, length-append}
+use Rattle.stretch.proofs.Join.{append-same}
+use Rattle.decimals.specs.Decimal.{decimal}
 use Rattle.text.specs.Layout.{locationText, alleleText, beforeLocation, beforeSequence, behindSequence}
 
 pub allele-pieces : (location x : List ℕ) → (beforeLocation ++ (location ++ beforeSequence)) ++ (x ++ behindSequence) ≡ alleleText location x
@@ -19,13 +19,6 @@ length-location start end digest = simp length-append (omega arith)
 pub length-allele : (location x : List ℕ) → length (alleleText location x) ≡ length location + (length x + 78)
 unfolding alleleText
 length-allele location x = simp length-append (omega arith)
-
--- two joins that are one, cut at one length
-append-same : (a b c d : List ℕ) → length a ≡ length b → a ++ c ≡ b ++ d → (a ≡ b) × (c ≡ d)
-append-same a b c d n e = (
-  sym (take-append-seam a c) ∙ ap (take (length a)) e ∙ take-at b d (length a) (sym n),
-  sym (drop-append-seam a c) ∙ ap (drop (length a)) e ∙ drop-at b d (length a) (sym n),
-)
 
 -- allele texts with location digests of one length are one only where their parts are
 pub allele-same : (l₁ l₂ x₁ x₂ : List ℕ) → length l₁ ≡ length l₂ → alleleText l₁ x₁ ≡ alleleText l₂ x₂ → (l₁ ≡ l₂) × (x₁ ≡ x₂)

@@ -1,5 +1,1 @@
-pub mod Digits
-pub mod Reading
-pub mod Writing
 pub mod Layouts
-pub mod Worked

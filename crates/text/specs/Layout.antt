@@ -2,7 +2,7 @@
 use Prim.Native.Nat.{ℕ}
 use mathlib.Core.List.{List, _++_}
 use Rattle.stretch.specs.Ascii.{ascii}
-use Rattle.text.specs.Decimal.{decimal}
+use Rattle.decimals.specs.Decimal.{decimal}
 
 -- what stands before the end, between end and start, between start and the sequence digest, behind it
 abbrev pub beforeEnd : List ℕ

@@ -1,3 +1,1 @@
-pub mod Decimal
-pub mod Number
 pub mod Layout

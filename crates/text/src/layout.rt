@@ -1,12 +1,12 @@
 // The location text and the allele text, written.
-use super::decimal::write_decimal;
+use decimals::put_decimal;
 use stretch::put;
 use stretch::put_three;
 ghost use mathlib.Core.List.{_++_};
 ghost use Prim.Native.Nat.{_+_, _≤_};
 ghost use lib.ListN.{length};
 ghost use Rattle.stretch.specs.Over.{Wrote};
-ghost use Rattle.text.specs.Decimal.{decimal};
+ghost use Rattle.decimals.specs.Decimal.{decimal};
 ghost use Rattle.text.specs.Layout.{locationText, alleleText};
 
 pub const BEFORE_END: [u8; 19] = *b"{\"interval\":{\"end\":";
@@ -22,14 +22,6 @@ pub const BEFORE_LOCATION: [u8; 13] = *b"{\"location\":\"";
 pub const BEFORE_SEQUENCE: [u8; 23] = *b"\",\"state\":{\"sequence\":\"";
 
 pub const BEHIND_SEQUENCE: [u8; 42] = *b"\",\"type\":\"SequenceState\"},\"type\":\"Allele\"}";
-
-// Lays the decimal of `n` over `out` from `place` on, and answers the place behind it.
-pub fn put_decimal(out: &mut [u8], place: usize, n: u64) -> usize
-    requires { ⌜ place + length (decimal n) ≤ length (now out) ⌝ }
-    ensures { λ r. ⌜ Wrote (now (out .entry)) place (decimal n) (now (out .exit)) r ⌝ }
-{
-    place + write_decimal(&mut out[place..], n)
-}
 
 // Lays the location text over the front of `out`, and answers how long it is.
 pub fn write_location(out: &mut [u8], start: u64, end: u64, digest: &[u8]) -> usize

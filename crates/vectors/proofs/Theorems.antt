@@ -7,8 +7,8 @@ use Rattle.compression.specs.Constants.{K}
 use Rattle.compression.specs.Block.{blockWords, schedule, roundAt, rounds, compressed}
 use Rattle.compression.specs.Blocks.{absorbed, hashed}
 use Rattle.sha512.specs.Message.{bytesOf, padding, fourWords, hashBytes, sha512}
-use Rattle.digest.specs.Base64.{character, encoded}
-use Rattle.digest.specs.Identifier.{digestText, sha512t24u}
+use Rattle.encoding.specs.Base64.{character, encoded}
+use Rattle.encoding.specs.Digest.{digestText, sha512t24u}
 
 pub one-block :
     sha512 (ascii "abc")

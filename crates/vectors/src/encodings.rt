@@ -8,7 +8,7 @@ fn line(a: u8, b: u8, c: u8) {
     hex_byte(b);
     hex_byte(c);
     text(b" ");
-    text(&digest::group_of(a, b, c));
+    text(&encoding::group_of(a, b, c));
     text(b"\n");
 }
 

@@ -10,6 +10,7 @@ use borrow.Author.Tests.{ltb-true, ltb-false}
 use Rattle.stretch.specs.Part.{part}
 use Rattle.stretch.proofs.Cases.{by-cases}
 use Rattle.stretch.proofs.Interval.{take-end}
+use Rattle.stretch.proofs.Join.{append-same}
 use Rattle.stretch.proofs.Tail.{lent-tail}
 use Rattle.words.specs.Prefix.{Begins, Longest, Refuses}
 use Rattle.words.specs.Walk.{Goes, Stops}
@@ -17,9 +18,6 @@ use Rattle.words.specs.Walk.{Goes, Stops}
 -- two lists that begin one list: the shorter begins the longer
 front-of : (x u y v : List ℕ) → x ++ u ≡ y ++ v → length x ≤ length y → take (length x) y ≡ x
 front-of x u y v e h = sym (take-append-le (length x) y v h) ∙ ap (take (length x)) (sym e) ∙ take-append-seam x u
-
-pub front-same : (x u y v : List ℕ) → x ++ u ≡ y ++ v → length x ≡ length y → x ≡ y
-front-same x u y v e h = sym (front-of x u y v e (omega arith)) ∙ take-all (length x) y (omega arith)
 
 -- a list is its own front
 all-front : (s : List ℕ) → take (length s) s ++ [] ≡ s
@@ -89,7 +87,7 @@ module _ (Kind : List ℕ → Type 0) (Next : List ℕ → List ℕ → Type 0) 
       compare (length w) (length w′)
       (λ h. absurd (not-shorter apart w v w′ v′ e k n k′ h))
       (λ h. absurd (not-shorter apart w′ v′ w v (sym e) k′ n′ k h))
-      (λ h. let same : w ≡ w′ = front-same w v w′ v′ e h in (same, append-cancel-left w v v′ (e ∙ ap (λ (l : List ℕ). l ++ v′) (sym same))))
+      (λ h. append-same w w′ v v′ h e)
 
   -- s has gone on by a word
   module _ (s : List ℕ) (k : ℕ) (g : Goes Kind s k) (apart : Apart Kind Next) where
@@ -103,8 +101,7 @@ module _ (Kind : List ℕ → Type 0) (Next : List ℕ → List ℕ → Type 0) 
         compare (length w) k
         (λ t. absurd (not-shorter apart w v (take k s) (part s k j ++ u) (sym joined) kind next (g .word) (omega (arith, long))))
         (λ t. absurd (longer t))
-        (λ t. let same : take k s ≡ w = front-same (take k s) (part s k j ++ u) w v joined (omega (arith, long)) in
-        (same, append-cancel-left w (part s k j ++ u) v (ap (λ (l : List ℕ). l ++ (part s k j ++ u)) (sym same) ∙ joined)))
+        (λ t. append-same (take k s) w (part s k j ++ u) v (omega (arith, long)) joined)
       where
         joined : take k s ++ (part s k j ++ u) ≡ w ++ v
         joined = sym (append-assoc (take k s) (part s k j) u) ∙ ap (λ (l : List ℕ). l ++ u) (sym (take-end s k j h)) ∙ e

@@ -10,10 +10,10 @@ use lib.Dec.{ltb}
 use lib.ListN.{length, getD, take, drop, length-append, List·getD-append}
 use lib.Seq.{length-take-le, take-suc, getD-at}
 use borrow.Author.Tests.{ltb-true, ltb-false}
-use Rattle.text.specs.Decimal.{digit, decimal}
-use Rattle.text.specs.Number.{valueFrom, value}
-use Rattle.text.proofs.Digits.{decimal-below, decimal-on, decimal-long, decimal-digits, decimal-front}
-use Rattle.text.proofs.Reading.{value-on, value-snoc, value-decimal}
+use Rattle.decimals.specs.Decimal.{digit, decimal}
+use Rattle.decimals.specs.Number.{valueFrom, value}
+use Rattle.decimals.proofs.Digits.{decimal-below, decimal-on, decimal-long, decimal-digits, decimal-front}
+use Rattle.decimals.proofs.Reading.{value-on, value-snoc, value-decimal}
 use Rattle.words.specs.declared.Walk.{Walk}
 use Rattle.words.specs.Prefix.{Begins}
 use Rattle.words.specs.Vocabulary.{DecimalTo}

@@ -7,7 +7,7 @@ use mathlib.Core.List.{List, [], append-nil}
 use lib.ListN.{drop}
 use Rattle.stretch.specs.Part.{part}
 use Rattle.stretch.proofs.Cases.{by-cases}
-use Rattle.text.proofs.Reading.{decimal-injective}
+use Rattle.decimals.proofs.Reading.{decimal-injective}
 use Rattle.words.specs.declared.Counted.{Counted}
 use Rattle.words.specs.declared.Walk.{Walk}
 use Rattle.words.specs.Prefix.{Longest}

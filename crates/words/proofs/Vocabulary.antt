@@ -8,8 +8,8 @@ use lib.ListN.{length, getD, replicate, length-append, List·getD-append}
 use lib.Seq.{append-snoc, getD-at}
 use Rattle.letters.specs.Letters.{residue, base64url, every}
 use Rattle.letters.proofs.Class.{every-at}
-use Rattle.text.specs.Decimal.{decimal}
-use Rattle.text.proofs.Digits.{decimal-digits}
+use Rattle.decimals.specs.Decimal.{decimal}
+use Rattle.decimals.proofs.Digits.{decimal-digits}
 use Rattle.words.specs.Prefix.{Begins}
 use Rattle.words.specs.Vocabulary.{Word, Digest, Letters, DecimalTo}
 use Rattle.words.proofs.Following.{Then, Apart}

@@ -5,7 +5,7 @@ use mathlib.Core.Bool.{true}
 use mathlib.Core.List.{List}
 use lib.ListN.{length}
 use Rattle.letters.specs.Letters.{residue, base64url, every}
-use Rattle.text.specs.Decimal.{decimal}
+use Rattle.decimals.specs.Decimal.{decimal}
 
 -- this one alone
 abbrev pub Word : List ℕ → List ℕ → Type 0

@@ -5,7 +5,7 @@ use mathlib.Core.Bool.{true, false}
 use mathlib.Core.List.{List}
 use lib.ListN.{length, take, drop}
 use Rattle.stretch.specs.Part.{part}
-use Rattle.text.specs.Decimal.{decimal}
+use Rattle.decimals.specs.Decimal.{decimal}
 use Rattle.words.specs.declared.Walk.{Walk}
 use Rattle.words.specs.Prefix.{Begins, Longest}
 use Rattle.words.specs.Vocabulary.{DecimalTo}

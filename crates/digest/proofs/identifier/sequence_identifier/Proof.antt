@@ -5,7 +5,8 @@ use lib.ListN.{length}
 use borrow.Author.Tests.{lt-ltb, le-ltb, ltb-false}
 use borrow.Author.Needs.{needs}
 use Rattle.refusal.proofs.Writes.{writes-nothing, writes-as}
-use Rattle.digest.specs.Identifier.{sha512t24u, sequenceIdentifier}
+use Rattle.encoding.specs.Digest.{sha512t24u}
+use Rattle.digest.specs.Identifier.{sequenceIdentifier}
 use Rattle.digest.proofs.identifier.sequence_identifier.Statement.{statement}
 use Rattle.digest.proofs.identifier.sequence_identifier.Tie as tie
 

@@ -4,9 +4,9 @@ use native.Mathlib.Omega.{arith}
 use mathlib.Core.Path.{_∙_, sym, ap}
 use borrow.Author.Tests.{ltb-false, le-leb, lt-leb}
 use borrow.Author.Needs.{needs}
+use Rattle.stretch.proofs.Join.{length-three}
 use Rattle.entering.specs.declared.Entered.the-variants.{New}
 use Rattle.records.proofs.Does.{does-refused, does-accepted}
-use Rattle.records.proofs.Three.{length-three}
 use Rattle.entering.proofs.allele.enter_new.Statement.{statement}
 use Rattle.entering.proofs.allele.enter_new.Tie as tie
 

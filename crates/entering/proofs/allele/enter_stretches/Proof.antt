@@ -1,7 +1,7 @@
 -- The stretches are lent as they lie.
 use borrow.Author.Needs.{needs}
 use Rattle.normal.specs.Stretches.{joined}
-use Rattle.entering.proofs.Stretched.{stretches-long}
+use Rattle.normal.proofs.Joined.{stretches-long}
 use Rattle.entering.proofs.allele.enter_stretches.Statement.{statement}
 use Rattle.entering.proofs.allele.enter_stretches.Tie as tie
 

@@ -4,8 +4,8 @@ use mathlib.Core.Path.{_≡_}
 use lib.ListN.{length}
 use borrow.Author.Needs.{needs}
 use Rattle.stretch.proofs.Over.{over-all}
-use Rattle.digest.proofs.Encoding.{length-digestText}
-use Rattle.digest.specs.Identifier.{sha512t24u}
+use Rattle.encoding.proofs.Encoding.{length-digestText}
+use Rattle.encoding.specs.Digest.{sha512t24u}
 use Rattle.locations.proofs.hash.location_digest.Statement.{statement}
 use Rattle.locations.proofs.hash.location_digest.Tie as tie
 

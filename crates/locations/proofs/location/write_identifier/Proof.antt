@@ -5,7 +5,7 @@ use lib.ListN.{length}
 use borrow.Author.Tests.{ltb-false}
 use borrow.Author.Needs.{needs}
 use Rattle.refusal.proofs.Says.{says-short, says-as}
-use Rattle.digest.specs.Identifier.{sha512t24u}
+use Rattle.encoding.specs.Digest.{sha512t24u}
 use Rattle.locations.specs.Identifier.{locationIdentifier}
 use Rattle.locations.proofs.Lengths.{length-location-identifier}
 use Rattle.locations.proofs.location.write_identifier.Statement.{statement}

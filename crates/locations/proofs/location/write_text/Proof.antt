@@ -6,9 +6,9 @@ use lib.ListN.{length, take, drop}
 use borrow.Author.Needs.{needs}
 use Rattle.refusal.proofs.Sum.{place-within, tail-room}
 use Rattle.refusal.proofs.Says.{says-short, says-tail}
-use Rattle.text.specs.Decimal.{decimal}
+use Rattle.decimals.specs.Decimal.{decimal}
 use Rattle.text.specs.Layout.{locationText}
-use Rattle.text.proofs.Digits.{decimal-within}
+use Rattle.decimals.proofs.Digits.{decimal-within}
 use Rattle.locations.proofs.Lengths.{location-long}
 use Rattle.locations.proofs.location.write_text.Statement.{statement}
 use Rattle.locations.proofs.location.write_text.Tie as tie
