@@ -108,15 +108,16 @@ static void long_allele_identifier(void) {
     hold(fv_allele_identifier(same, LONG, LONG / 2, LONG / 2, one, 1, repeat_digest, 32, out, 41, 0).length == 41);
 }
 static void plain_long_digest(void) { plain_sha512(same, LONG, digest); }
-static void plain_long_all(void) {
+static void plain_long_roll(void) {
     found = plain_common_suffix(same, same + 1, LONG / 2) + plain_common_prefix(same, same + 1, LONG / 2);
-    hold(plain_letters(same, LONG) == LONG);
-    plain_long_digest();
 }
+static void plain_long_test(void) { hold(plain_letters(same, LONG) == LONG); }
+static void plain_long_all(void) { plain_long_digest(), plain_long_roll(), plain_long_test(); }
 
 static void sequence_lines(double openssl) {
     row whole[] = {{"`fv_sequence_identifier`", identifier, 0},
                    {"plain C SHA-512", plain_digest, 0},
+                   {"plain C letter test", plain_test, 0},
                    {"plain C SHA-512 and letter test", plain_digest_and_test, 0}};
     ours_first("identifier of 64 MB", whole, COUNT(whole));
     row other = {"OpenSSL SHA-512", 0, openssl > 0 ? BYTES / openssl * 1e9 : 0};
@@ -159,6 +160,8 @@ static void allele_lines(double second) {
     if (second > 0) line("30 thousand allele identifiers", &alleles[0], &other);
     row long_allele[] = {{"`fv_allele_identifier`", long_allele_identifier, 0},
                          {"plain C SHA-512", plain_long_digest, 0},
+                         {"plain C roll to both sides", plain_long_roll, 0},
+                         {"plain C letter test", plain_long_test, 0},
                          {"plain C SHA-512, roll and letter test", plain_long_all, 0}};
     ours_first("an allele of 10 million letters", long_allele, COUNT(long_allele));
 }
