@@ -14,8 +14,6 @@ CALLS_IN_A_RUN = 20_000
 UNTOUCHED = 1 << 63
 REPEATED = 1 << 62
 NO_MEMORY = b"\xff" * 8
-# What a call is counted as that the driver has no memory for.
-SKIPPED = "skipped for want of memory"
 # So many characters of a slice are shown where an answer disagrees.
 SHOWN = 2000
 
@@ -73,6 +71,12 @@ class Case(NamedTuple):
         """The refusal, or what an accepted answer is counted as."""
         refusal = self.answer[0] if self.answer else 0
         return refusal or self.accepted
+
+
+class Skipped(NamedTuple):
+    """What a call is counted as that the driver has no memory for: the outcome that it was to have."""
+
+    outcome: object
 
 
 class Disagreement(Exception):
@@ -135,7 +139,7 @@ def outcome(case, answers, status):
         return case.outcome()
     if got.startswith(NO_MEMORY):
         answers.seek(place + len(NO_MEMORY))
-        return SKIPPED
+        return Skipped(case.outcome())
     if len(got) < len(want):
         end = [f"  the driver ended with status {status} before it had answered this call"]
     else:
