@@ -4,13 +4,14 @@ use mathlib.Core.Path.{refl}
 use mathlib.Core.Logic.{inl, inr}
 use mathlib.Core.List.{List, _∷_}
 use Rattle.image.specs.Fields.{statusOf}
-use Rattle.history.specs.Events.{Way, Event, entry, undo, new}
+use Rattle.history.specs.Events.{Way, Event, entry, undo, new, unsealed, sealed}
 use Rattle.history.specs.Demand.{Active, Demand, EntryDemand, UndoDemand}
 use Rattle.history.proofs.View.{View, Moves}
+use Rattle.history.proofs.Standing.{undone-latest}
 use Rattle.history.proofs.Shows.{shows}
 use Rattle.history.proofs.Invariant.{Inv, inv-moved}
 use Rattle.history.proofs.Replay.{Holds, SomeHolds}
-use Rattle.history.proofs.Told.{told-set, told-one, entry-holds, entry-first, undo-latest, undo-unsealed}
+use Rattle.history.proofs.Told.{told-set, told-one, entry-holds, entry-first}
 
 module _ (r b : List ℕ) where
   holds-active : (i : ℕ) (t : List ℕ) → Holds (shows r b) (statusOf b) i t → Active r b i t
@@ -29,7 +30,9 @@ module _ (r b : List ℕ) where
         );
         one = told-one h (shows r b) inv;
         stays = inv .numbers .answered;
-        journal = inv .count;
+        issuer = inv .numbers .issued;
+        distinct = inv .numbers .one;
+        journal = inv .stands .count;
       }
 
   module _ (h : List Event) (v : View) (inv : Inv h v) (i : ℕ) where
@@ -43,4 +46,5 @@ module _ (r b : List ℕ) where
         }
 
     pub undo-demanded : Moves v (undo i) (shows r b) → UndoDemand h i
-    undo-demanded m = record { latest = undo-latest h v inv (shows r b) i m; unsealed-one = undo-unsealed h v inv (shows r b) i m }
+    undo-demanded m = undone-latest (sealed h) v (shows r b) i m (unsealed h) (inv .stands)
+        (λ c cs e own. record { taken = c; others = cs; latest = e; answered = own })

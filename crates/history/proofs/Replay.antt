@@ -1,16 +1,16 @@
 -- The set that replaying makes has the sequences of the numbers that the changes leave active, and no others.
 use Prim.Native.Nat.{ℕ}
 use mathlib.Core.Path.{_≡_, refl, sym, _∙_, ap}
-use mathlib.Core.Bool.{true, false, cond, false≢true}
+use mathlib.Core.Bool.{true, cond, false≢true}
 use mathlib.Core.List.{List, [], _∷_}
 use lib.Dec.{eqb}
 use borrow.Author.Tests.{eqb-true}
 use Rattle.stretch.specs.Same.{same}
 use Rattle.stretch.proofs.Same.{same-refl, same-eq, same-unlike}
 use Rattle.stretch.proofs.Cases.{by-cases}
-use Rattle.history.specs.Events.{Event, Change, added, removed, meant, replayed}
+use Rattle.history.specs.Events.{Event, Change, added, removed, numberOf, meant, replayed}
 use Rattle.history.proofs.View.{View}
-use Rattle.history.proofs.Standing.{numberOf, given, act, Turns, Valid, act-own, act-other}
+use Rattle.history.proofs.Standing.{given, act, Turns, Valid, act-own, act-other}
 use Rattle.history.proofs.Numbers.{Numbers}
 use Rattle.history.proofs.Equal.{by-equal}
 

@@ -1,21 +1,17 @@
 -- The changes that stand, and how the statuses and the journal of a register match them.
-use Prim.Native.Nat.{ℕ, zero, suc, _-_, _<_}
+use Prim.Native.Nat.{ℕ, suc, _-_, _<_}
 use native.Mathlib.Omega.{arith}
 use mathlib.Core.Path.{_≡_, refl, sym, _∙_, ap, subst}
 use mathlib.Core.Bool.{cond}
-use mathlib.Core.List.{List, [], _∷_}
+use mathlib.Core.List.{List, [], _∷_, _++_}
 use lib.Dec.{eqb}
-use lib.ListN.{drop}
+use lib.ListN.{length, drop}
 use borrow.Author.Tests.{eq-eqb, ne-eqb}
-use Rattle.history.specs.Events.{Change, added, removed, latestNumber}
+use Rattle.history.specs.Events.{Change, added, removed, numberOf}
 use Rattle.history.proofs.View.{View, Keeps, Changes, Undone, Sealed}
 use Rattle.history.proofs.Equal.{by-equal}
 
--- the number that a change is about, and the status that it gives it
-abbrev pub numberOf : Change → ℕ
-numberOf (added i t) = i
-numberOf (removed i) = i
-
+-- the status that a change gives its number
 abbrev pub given : Change → ℕ
 given (added i t) = 1
 given (removed i) = 0
@@ -40,16 +36,17 @@ abbrev pub Valid : View → List Change → Type 0
 Valid v [] = Unit
 Valid v (c ∷ cs) = Turns v c cs × Valid v cs
 
--- the first entries of a journal are, the last one first, the numbers of the latest changes
-abbrev pub Matches : (ℕ → ℕ) → ℕ → List Change → Type 0
-Matches journal zero cs = Unit
-Matches journal (suc n) [] = ⊥
-Matches journal (suc n) (c ∷ cs) = (journal n ≡ numberOf c) × Matches journal n cs
+-- the first entries of a journal are, the last one first, the numbers of these changes
+abbrev pub Journals : (ℕ → ℕ) → List Change → Type 0
+Journals journal [] = Unit
+Journals journal (c ∷ cs) = (journal (length cs) ≡ numberOf c) × Journals journal cs
 
-pub record Stands (cs : List Change) (v : View) : Type 0 where
-  pub statuses : (i : ℕ) → v .Live i → v .status i ≡ act cs i
-  pub valid : Valid v cs
-  pub matches : Matches (v .journal) (v .count) cs
+-- the changes us, which are not sealed, and ss, which are
+pub record Stands (us ss : List Change) (v : View) : Type 0 where
+  pub statuses : (i : ℕ) → v .Live i → v .status i ≡ act (us ++ ss) i
+  pub valid : Valid v (us ++ ss)
+  pub count : v .count ≡ length us
+  pub journals : Journals (v .journal) us
 
 pub act-own : (c : Change) (cs : List Change) (i : ℕ) → i ≡ numberOf c → act (c ∷ cs) i ≡ given c
 act-own c cs i e = rw (eq-eqb (numberOf c) i (sym e)) refl
@@ -67,13 +64,12 @@ means-kept : (v w : View) (c : Change) → w .sequence (numberOf c) ≡ v .seque
 means-kept v w (added i t) e m = e ∙ m
 means-kept v w (removed i) e m = m
 
-matches-kept : (f g : ℕ → ℕ) (n : ℕ) (cs : List Change) → ((k : ℕ) → k < n → g k ≡ f k) → Matches f n cs → Matches g n cs
-matches-kept f g zero cs same m = m
-matches-kept f g (suc n) [] same m = m
-matches-kept f g (suc n) (c ∷ cs) same m = (same n (omega arith) ∙ m .0, matches-kept f g n cs (λ k l. same k (omega arith)) (m .1))
+journals-kept : (f g : ℕ → ℕ) (cs : List Change) → ((k : ℕ) → k < length cs → g k ≡ f k) → Journals f cs → Journals g cs
+journals-kept f g [] same m = m
+journals-kept f g (c ∷ cs) same m = (same (length cs) (omega arith) ∙ m .0, journals-kept f g cs (λ k l. same k (omega (arith, l))) (m .1))
 
 module _ {v w : View} (i : ℕ) (keeps : Keeps v w i) where
-  status-kept : {cs : List Change} → Stands cs v → (j : ℕ) → (j ≡ i → ⊥) → w .Live j → w .status j ≡ act cs j
+  status-kept : {us ss : List Change} → Stands us ss v → (j : ℕ) → (j ≡ i → ⊥) → w .Live j → w .status j ≡ act (us ++ ss) j
   status-kept s j n live =
       let before : v .Live j = keeps .lived j n live in keeps .statuses j before n ∙ s .statuses j before
 
@@ -90,46 +86,56 @@ module _ {v w : View} (i : ℕ) (keeps : Keeps v w i) where
       )
 
 -- one more change
-pub stands-changed : (cs : List Change) (c : Change) (v w : View)
-    → Stands cs v → Changes v w (numberOf c) (given c) → act cs (numberOf c) ≡ 1 - given c → Means w c → Stands (c ∷ cs) w
-stands-changed cs c v w s changes other means =
+pub stands-changed : (us ss : List Change) (c : Change) (v w : View) → Stands us ss v
+    → Changes v w (numberOf c) (given c) → act (us ++ ss) (numberOf c) ≡ 1 - given c → Means w c → Stands (c ∷ us) ss w
+stands-changed us ss c v w s changes other means =
     record {
       statuses = λ j live. by-equal j (numberOf c)
-          (λ e. ap (w .status) e ∙ changes .now ∙ sym (act-own c cs j e))
-          (λ n. status-kept (numberOf c) (changes .keeps) s j n live ∙ sym (act-other c cs j n));
-      valid = (record { live = changes .lives; means = means; other = other }, valid-kept (numberOf c) (changes .keeps) cs (s .valid));
-      matches = rw (changes .count) (changes .last, matches-kept (v .journal) (w .journal) (v .count) cs (changes .keeps .journals) (s .matches));
+          (λ e. ap (w .status) e ∙ changes .now ∙ sym (act-own c (us ++ ss) j e))
+          (λ n. status-kept (numberOf c) (changes .keeps) s j n live ∙ sym (act-other c (us ++ ss) j n));
+      valid = (
+        record { live = changes .lives; means = means; other = other },
+        valid-kept (numberOf c) (changes .keeps) (us ++ ss) (s .valid),
+      );
+      count = changes .count ∙ ap suc (s .count);
+      journals = (
+        ap (w .journal) (sym (s .count)) ∙ changes .last,
+        journals-kept (v .journal) (w .journal) us (λ k l. changes .keeps .journals k (omega (arith, l, s .count))) (s .journals),
+      );
     }
 
--- an undo: the latest change is about its number, and no longer stands
-latest-own : (c : Change) (cs : List Change) → latestNumber (c ∷ cs) ≡ numberOf c
-latest-own (added i t) cs = refl
-latest-own (removed i) cs = refl
+-- an undo: the latest change not sealed is about its number, and no longer stands
+module _ (ss : List Change) (v w : View) (i : ℕ) (u : Undone v w i) where
+  undone-count : (us : List Change) → Stands us ss v → suc (w .count) ≡ length us
+  undone-count us s = sym (u .count) ∙ s .count
 
-matches-undone : (cs : List Change) (v w : View) (i : ℕ) → Stands cs v → Undone v w i → Matches (v .journal) (suc (w .count)) cs
-matches-undone cs v w i s u = subst (λ (n : ℕ). Matches (v .journal) n cs) (u .count) (s .matches)
+  undone-own : (c : Change) (us : List Change) → Stands (c ∷ us) ss v → i ≡ numberOf c
+  undone-own c us s = sym (u .last) ∙ ap (v .journal) (omega (arith, undone-count (c ∷ us) s)) ∙ s .journals .0
 
-pub undone-latest : (cs : List Change) (v w : View) (i : ℕ) → Stands cs v → Undone v w i → latestNumber cs ≡ i
-undone-latest [] v w i s u = absurd (matches-undone [] v w i s u)
-undone-latest (c ∷ cs) v w i s u = latest-own c cs ∙ sym (matches-undone (c ∷ cs) v w i s u .0) ∙ u .last
+  pub undone-latest : {C : Type 0} (us : List Change) → Stands us ss v
+      → ((c : Change) (cs : List Change) → us ≡ c ∷ cs → numberOf c ≡ i → C) → C
+  undone-latest [] s f = absurd (omega (arith, undone-count [] s))
+  undone-latest (c ∷ us) s f = f c us refl (sym (undone-own c us s))
 
-pub stands-undone : (cs : List Change) (v w : View) (i : ℕ) → Stands cs v → Undone v w i → Stands (drop 1 cs) w
-stands-undone [] v w i s u = absurd (matches-undone [] v w i s u)
-stands-undone (c ∷ cs) v w i s u =
-    let m : Matches (v .journal) (suc (w .count)) (c ∷ cs) = matches-undone (c ∷ cs) v w i s u in
-    let own : i ≡ numberOf c = sym (u .last) ∙ m .0 in
-    record {
-      statuses = λ j live. by-equal j i
-          (λ e. rw (e, u .turned, s .statuses i (u .live), act-own c cs i own, own) (sym (s .valid .0 .other)))
-          (λ n. status-kept i (u .keeps) s j n live ∙ act-other c cs j (λ e. n (e ∙ sym own)));
-      valid = valid-kept i (u .keeps) cs (s .valid .1);
-      matches = matches-kept (v .journal) (w .journal) (w .count) cs (λ k l. u .keeps .journals k (omega (arith, u .count))) (m .1);
-    }
+  pub stands-undone : (us : List Change) → Stands us ss v → Stands (drop 1 us) ss w
+  stands-undone [] s = absurd (omega (arith, undone-count [] s))
+  stands-undone (c ∷ us) s =
+      let own : i ≡ numberOf c = undone-own c us s in
+      let count : w .count ≡ length us = omega (arith, undone-count (c ∷ us) s) in
+      record {
+        statuses = λ j live. by-equal j i
+            (λ e. rw (e, u .turned, s .statuses i (u .live), act-own c (us ++ ss) i own, own) (sym (s .valid .0 .other)))
+            (λ n. status-kept i (u .keeps) s j n live ∙ act-other c (us ++ ss) j (λ e. n (e ∙ sym own)));
+        valid = valid-kept i (u .keeps) (us ++ ss) (s .valid .1);
+        count = count;
+        journals = journals-kept (v .journal) (w .journal) us (λ k l. u .keeps .journals k (omega (arith, l, u .count, count))) (s .journals .1);
+      }
 
-pub stands-sealed : (cs : List Change) (v w : View) → Stands cs v → Sealed v w → Stands cs w
-stands-sealed cs v w s seal =
+pub stands-sealed : (us ss : List Change) (v w : View) → Stands us ss v → Sealed v w → Stands [] (us ++ ss) w
+stands-sealed us ss v w s seal =
     record {
       statuses = λ j live. status-kept 0 (seal .keeps) s j (λ e. seal .nought (subst (w .Live) e live)) live;
-      valid = valid-kept 0 (seal .keeps) cs (s .valid);
-      matches = rw (seal .count) tt;
+      valid = valid-kept 0 (seal .keeps) (us ++ ss) (s .valid);
+      count = seal .count;
+      journals = tt;
     }

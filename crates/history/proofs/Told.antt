@@ -1,13 +1,12 @@
 -- Demand 3, of whatever a register shows.
-use Prim.Native.Nat.{ℕ, _≤_}
-use native.Mathlib.Omega.{arith}
+use Prim.Native.Nat.{ℕ}
 use mathlib.Core.Path.{_≡_, refl, sym, _∙_, ap, subst}
 use mathlib.Core.Bool.{true, true≢false}
 use mathlib.Core.Logic.{_↔_}
 use mathlib.Core.List.{List}
-use Rattle.history.specs.Events.{Way, Event, entry, undo, new, again, known, Occurs, standing, latestNumber, unsealed, meant, replayed}
+use Rattle.history.specs.Events.{Way, Event, entry, new, again, known, Occurs, standing, meant, replayed}
 use Rattle.history.proofs.View.{View, Moves}
-use Rattle.history.proofs.Standing.{act, undone-latest}
+use Rattle.history.proofs.Standing.{act}
 use Rattle.history.proofs.Invariant.{Inv}
 use Rattle.history.proofs.Replay.{Holds, SomeHolds, replayed-holds, holds-replayed}
 
@@ -44,9 +43,3 @@ module _ (h : List Event) (v : View) (inv : Inv h v) where
     entry-first new t m = (λ e way′ u o. m .fresh (inv .numbers .answered way′ i u o .0), λ none. refl)
     entry-first again t m = (λ e. absurd (true≢false cc), λ none. absurd (none new _ (inv .numbers .issued i (m .live))))
     entry-first known t m = (λ e. absurd (true≢false cc), λ none. absurd (none new _ (inv .numbers .issued i (m .live))))
-
-    pub undo-latest : Moves v (undo i) w → latestNumber (standing h) ≡ i
-    undo-latest m = undone-latest (standing h) v w i (inv .stands) m
-
-    pub undo-unsealed : Moves v (undo i) w → 1 ≤ unsealed h
-    undo-unsealed m = omega (arith, m .count, inv .count)

@@ -3,10 +3,11 @@ use Prim.Native.Nat.{ℕ, _≤_}
 use mathlib.Core.Path.{_≡_}
 use mathlib.Core.Bool.{true}
 use mathlib.Core.Logic.{_↔_}
-use mathlib.Core.List.{List}
+use mathlib.Core.List.{List, _∷_}
+use lib.ListN.{length}
 use Rattle.normal.specs.Form.{altered}
 use Rattle.image.specs.Fields.{issued, journalCount, startOf, endOf, statusOf, replacementOf, active}
-use Rattle.history.specs.Events.{Way, Event, entry, new, Occurs, standing, latestNumber, unsealed, meant, replayed}
+use Rattle.history.specs.Events.{Way, Event, entry, new, Occurs, Change, numberOf, unsealed, standing, meant, replayed}
 
 -- a number stands for something: it is issued
 pub record Live (b : List ℕ) (i : ℕ) : Type 0 where
@@ -36,8 +37,12 @@ pub record Demand (r : List ℕ) (h : List Event) (b : List ℕ) : Type 0 where
   pub one : (w v : Way) (i j : ℕ) (t u : List ℕ) → Occurs (entry w i t) h → Occurs (entry v j u) h → (i ≡ j) ↔ (t ≡ u)
   -- a number that was answered stands for that entry's altered sequence ever since
   pub stays : (w : Way) (i : ℕ) (t : List ℕ) → Occurs (entry w i t) h → Live b i × (sequenceOf r b i ≡ t)
-  -- the changes that an undo can take back are those since the last seal
-  pub journal : journalCount b ≡ unsealed h
+  -- every number issued was answered "new", by an entry that made the altered sequence that it stands for
+  pub issuer : (i : ℕ) → Live b i → Occurs (entry new i (sequenceOf r b i)) h
+  -- and no two of them stand for one sequence
+  pub distinct : (i j : ℕ) → Live b i → Live b j → sequenceOf r b i ≡ sequenceOf r b j → i ≡ j
+  -- the journal count is the number of changes that can be undone
+  pub journal : journalCount b ≡ length (unsealed h)
 
 -- and of the entry that was accepted last
 pub record EntryDemand (r : List ℕ) (h : List Event) (b : List ℕ) (w : Way) (i : ℕ) (t : List ℕ) : Type 0 where
@@ -48,7 +53,11 @@ pub record EntryDemand (r : List ℕ) (h : List Event) (b : List ℕ) (w : Way) 
   -- and it is new exactly when no entry before it was answered with its number
   pub first : (w ≡ new) ↔ ((v : Way) (u : List ℕ) → Occurs (entry v i u) h → ⊥)
 
--- and of the undo that was accepted last: it took back the latest change that stood, which was not sealed, and answered its number
+-- and of the undo that was accepted last
 pub record UndoDemand (h : List Event) (i : ℕ) : Type 0 where
-  pub latest : latestNumber (standing h) ≡ i
-  pub unsealed-one : 1 ≤ unsealed h
+  pub taken : Change
+  pub others : List Change
+  -- the change that it took back is the latest that was not sealed
+  pub latest : unsealed h ≡ taken ∷ others
+  -- and its number was answered
+  pub answered : numberOf taken ≡ i

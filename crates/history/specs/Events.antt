@@ -1,9 +1,9 @@
 -- Histories: what each call came to, which changes stand, and the set of altered sequences that they make.
-use Prim.Native.Nat.{ℕ, suc, _-_}
+use Prim.Native.Nat.{ℕ}
 use mathlib.Core.Path.{_≡_}
 use mathlib.Core.Logic.{_⊎_}
 use mathlib.Core.Bool.{Bool, true, false, cond}
-use mathlib.Core.List.{List, [], _∷_}
+use mathlib.Core.List.{List, [], _∷_, _++_}
 use lib.Dec.{eqb}
 use lib.ListN.{drop}
 use Rattle.stretch.specs.Same.{same}
@@ -33,33 +33,35 @@ pub data Change : Type 0 where
   added : ℕ → List ℕ → Change
   removed : ℕ → Change
 
--- the changes of a history that no undo took back; histories and changes stand the latest first
-abbrev pub standing : List Event → List Change
-standing [] = []
-standing (entry new i t ∷ h) = added i t ∷ standing h
-standing (entry again i t ∷ h) = added i t ∷ standing h
-standing (entry known i t ∷ h) = standing h
-standing (withdrawal i ∷ h) = removed i ∷ standing h
-standing (undo i ∷ h) = drop 1 (standing h)
-standing (seal ∷ h) = standing h
-standing (refusal ∷ h) = standing h
+-- the number that it is about
+abbrev pub numberOf : Change → ℕ
+numberOf (added i t) = i
+numberOf (removed i) = i
 
--- the number that the latest of them is about, 0 where there is none
-abbrev pub latestNumber : List Change → ℕ
-latestNumber [] = 0
-latestNumber (added i t ∷ cs) = i
-latestNumber (removed i ∷ cs) = i
-
--- how many of them are not sealed
-abbrev pub unsealed : List Event → ℕ
-unsealed [] = 0
-unsealed (entry new i t ∷ h) = suc (unsealed h)
-unsealed (entry again i t ∷ h) = suc (unsealed h)
+-- the changes that stand and can be undone, the latest first, as in histories: "new", "again" and a withdrawal make one, an
+-- undo takes the latest back, and a seal leaves none
+abbrev pub unsealed : List Event → List Change
+unsealed [] = []
+unsealed (entry new i t ∷ h) = added i t ∷ unsealed h
+unsealed (entry again i t ∷ h) = added i t ∷ unsealed h
 unsealed (entry known i t ∷ h) = unsealed h
-unsealed (withdrawal i ∷ h) = suc (unsealed h)
-unsealed (undo i ∷ h) = unsealed h - 1
-unsealed (seal ∷ h) = 0
+unsealed (withdrawal i ∷ h) = removed i ∷ unsealed h
+unsealed (undo i ∷ h) = drop 1 (unsealed h)
+unsealed (seal ∷ h) = []
 unsealed (refusal ∷ h) = unsealed h
+
+-- the changes that stand and can't be undone: a seal puts those above in front of them, and nothing else touches them
+abbrev pub sealed : List Event → List Change
+sealed [] = []
+sealed (entry way i t ∷ h) = sealed h
+sealed (withdrawal i ∷ h) = sealed h
+sealed (undo i ∷ h) = sealed h
+sealed (seal ∷ h) = unsealed h ++ sealed h
+sealed (refusal ∷ h) = sealed h
+
+-- all changes that stand
+abbrev pub standing : List Event → List Change
+standing h = unsealed h ++ sealed h
 
 -- what a number stands for: the altered sequence of the entry that issued it
 abbrev pub meant : List Event → ℕ → List ℕ
