@@ -1,5 +1,5 @@
 -- The changes that stand, and how the statuses and the journal of a register match them.
-use Prim.Native.Nat.{ℕ, suc, _-_, _<_}
+use Prim.Native.Nat.{ℕ, suc, _-_, _≤_}
 use native.Mathlib.Omega.{arith}
 use mathlib.Core.Path.{_≡_, refl, sym, _∙_, ap, subst}
 use mathlib.Core.Bool.{cond}
@@ -64,10 +64,6 @@ means-kept : (v w : View) (c : Change) → w .sequence (numberOf c) ≡ v .seque
 means-kept v w (added i t) e m = e ∙ m
 means-kept v w (removed i) e m = m
 
-journals-kept : (f g : ℕ → ℕ) (cs : List Change) → ((k : ℕ) → k < length cs → g k ≡ f k) → Journals f cs → Journals g cs
-journals-kept f g [] same m = m
-journals-kept f g (c ∷ cs) same m = (same (length cs) (omega arith) ∙ m .0, journals-kept f g cs (λ k l. same k (omega (arith, l))) (m .1))
-
 module _ {v w : View} (i : ℕ) (keeps : Keeps v w i) where
   status-kept : {us ss : List Change} → Stands us ss v → (j : ℕ) → (j ≡ i → ⊥) → w .Live j → w .status j ≡ act (us ++ ss) j
   status-kept s j n live =
@@ -85,6 +81,11 @@ module _ {v w : View} (i : ℕ) (keeps : Keeps v w i) where
         valid-kept cs (valid .1),
       )
 
+  journals-kept : (cs : List Change) → length cs ≤ v .count → Journals (v .journal) cs → Journals (w .journal) cs
+  journals-kept [] within m = m
+  journals-kept (c ∷ cs) within m =
+      (keeps .journals (length cs) (omega (arith, within)) ∙ m .0, journals-kept cs (omega (arith, within)) (m .1))
+
 -- one more change
 pub stands-changed : (us ss : List Change) (c : Change) (v w : View) → Stands us ss v
     → Changes v w (numberOf c) (given c) → act (us ++ ss) (numberOf c) ≡ 1 - given c → Means w c → Stands (c ∷ us) ss w
@@ -100,7 +101,7 @@ stands-changed us ss c v w s changes other means =
       count = changes .count ∙ ap suc (s .count);
       journals = (
         ap (w .journal) (sym (s .count)) ∙ changes .last,
-        journals-kept (v .journal) (w .journal) us (λ k l. changes .keeps .journals k (omega (arith, l, s .count))) (s .journals),
+        journals-kept (numberOf c) (changes .keeps) us (omega (arith, s .count)) (s .journals),
       );
     }
 
@@ -121,14 +122,13 @@ module _ (ss : List Change) (v w : View) (i : ℕ) (u : Undone v w i) where
   stands-undone [] s = absurd (omega (arith, undone-count [] s))
   stands-undone (c ∷ us) s =
       let own : i ≡ numberOf c = undone-own c us s in
-      let count : w .count ≡ length us = omega (arith, undone-count (c ∷ us) s) in
       record {
         statuses = λ j live. by-equal j i
             (λ e. rw (e, u .turned, s .statuses i (u .live), act-own c (us ++ ss) i own, own) (sym (s .valid .0 .other)))
             (λ n. status-kept i (u .keeps) s j n live ∙ act-other c (us ++ ss) j (λ e. n (e ∙ sym own)));
         valid = valid-kept i (u .keeps) (us ++ ss) (s .valid .1);
-        count = count;
-        journals = journals-kept (v .journal) (w .journal) us (λ k l. u .keeps .journals k (omega (arith, l, u .count, count))) (s .journals .1);
+        count = omega (arith, undone-count (c ∷ us) s);
+        journals = journals-kept i (u .keeps) us (omega (arith, s .count)) (s .journals .1);
       }
 
 pub stands-sealed : (us ss : List Change) (v w : View) → Stands us ss v → Sealed v w → Stands [] (us ++ ss) w

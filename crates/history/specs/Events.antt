@@ -38,8 +38,8 @@ abbrev pub numberOf : Change → ℕ
 numberOf (added i t) = i
 numberOf (removed i) = i
 
--- the changes that stand and can be undone, the latest first, as in histories: "new", "again" and a withdrawal make one, an
--- undo takes the latest back, and a seal leaves none
+-- the changes that stand and can be undone, the latest first, as in histories: "new", "again" and a withdrawal make one,
+-- an undo takes the latest back, and a seal leaves none
 abbrev pub unsealed : List Event → List Change
 unsealed [] = []
 unsealed (entry new i t ∷ h) = added i t ∷ unsealed h
@@ -50,7 +50,7 @@ unsealed (undo i ∷ h) = drop 1 (unsealed h)
 unsealed (seal ∷ h) = []
 unsealed (refusal ∷ h) = unsealed h
 
--- the changes that stand and can't be undone: a seal puts those above in front of them, and nothing else touches them
+-- the changes that stand and can't be undone: a seal puts those above in front of these, and nothing else touches them
 abbrev pub sealed : List Event → List Change
 sealed [] = []
 sealed (entry way i t ∷ h) = sealed h
