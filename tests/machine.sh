@@ -33,16 +33,17 @@ execute() {
     ${emulator:+"$emulator"} "$loader" --library-path "$lib" "$@"
 }
 
-# build PROGRAM SOURCE: a C program over the library that is installed under $prefix. On x86-64 the machine's
-# own compiler builds it, as a laboratory would; elsewhere the kit's does, with what tests/libc declares. started
-# is then the words that start it.
+# build PROGRAM SOURCE [ARCHIVE]: a C program over the library that is installed under $prefix, or over another. On
+# x86-64 the machine's own compiler builds it, as a laboratory would; elsewhere the kit's does, with what tests/libc
+# declares. started is then the words that start it.
 build() {
+    build_archive=${3:-$prefix/lib/libfearnavult.a}
     if [ "$(uname -m)" = x86_64 ]; then
-        gcc -std=c11 -O2 -Wall -Wextra -Werror -I"$prefix/include" -o "$1" "$2" "$prefix/lib/libfearnavult.a"
+        gcc -std=c11 -O2 -Wall -Wextra -Werror -I"$prefix/include" -o "$1" "$2" "$build_archive"
         started=$1
     else
         compile "$2" "$1.o" -O2 -Itests/libc
-        link "$1" "$1.o" "$prefix/lib/libfearnavult.a"
+        link "$1" "$1.o" "$build_archive"
         started="$emulator $loader --library-path $lib $1"
     fi
 }
