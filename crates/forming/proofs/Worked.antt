@@ -1,17 +1,50 @@
--- The worked alleles: none is turned away.
-use mathlib.Core.Path.{_≡_, refl}
-use mathlib.Core.List.{map}
+-- The worked alleles: the call answers each as the table does.
+use Prim.Native.Nat.{ℕ, _+_, _≤_}
+use mathlib.Core.Path.{_≡_, refl, _∙_}
+use mathlib.Core.List.{List, [], _∷_, map}
+use lib.ListN.{length}
+use borrow.Author.Tests.{le-ltb}
 use Rattle.stretch.specs.Common.{lcp, lcs}
+use Rattle.stretch.specs.Over.{over}
 use Rattle.stretch.specs.Same.{same}
 use Rattle.refusal.specs.Verdict.{Verdict, accepted, verdict}
+use Rattle.refusal.specs.Writes.{outputTooShort}
+use Rattle.refusal.proofs.Verdict.{verdict-then}
 use Rattle.letters.specs.Letters.{residue, firstOutside}
 use Rattle.normal.specs.Form.{altered, shorter, within, ahead, behind, kindIn, kindOf, changedForm, normal}
 use Rattle.normal.specs.Worked.{Case, cases}
-use Rattle.forming.specs.Calls.{formGrounds}
+use Rattle.normal.proofs.Worked.{formed, worked}
+use Rattle.forming.specs.declared.Normalised.the-variants.{Accepted as Formed}
+use Rattle.forming.specs.Calls.{told, formGrounds, normalGrounds}
+use Rattle.forming.specs.Worked.{Promised, Works, AllWork}
+use Rattle.forming.proofs.Promises.{normalises-once}
 
-abbrev pub judged : Case → Verdict
+abbrev judged : Case → Verdict
 judged c = verdict (formGrounds (c .reference) (c .start) (c .end) (c .replacement))
 
-pub worked-accepted : map judged cases ≡ map (λ (c : Case). accepted) cases
+-- none is turned away by 1 to 5
+accepted-cases : map judged cases ≡ map (λ (c : Case). accepted) cases
 unfolding lcp lcs same altered shorter within ahead behind kindIn kindOf changedForm normal residue firstOutside formGrounds
-worked-accepted = refl
+accepted-cases = refl
+
+-- nor by 6 where there is room
+works : (c : Case) → formed c ≡ c .answer → judged c ≡ accepted
+    → (out : List ℕ) (place : ℕ) → place + length (c .answer .replacement) ≤ length out → Works c out place
+unfolding normalGrounds
+works c form passed out place room =
+    let six : verdict (outputTooShort (length out) place (length (c .answer .replacement)) ∷ []) ≡ accepted
+    = rw (le-ltb (length out) (place + length (c .answer .replacement)) room) in
+    let v : verdict (normalGrounds (c .reference) (c .start) (c .end) (c .replacement) (length out) place) ≡ accepted
+    = verdict-then (formGrounds (c .reference) (c .start) (c .end) (c .replacement)) _ passed ∙ rw form six in
+    let met : Promised c out place (Formed (told (c .answer))) (over out place (c .answer .replacement))
+    = record { answers = rw (v, form); leaves = rw (v, form) } in
+    record { met = met; only = λ answer left p. normalises-once _ _ _ _ out place _ _ _ _ p met }
+
+all-work : (cs : List Case) → map formed cs ≡ map (λ (c : Case). c .answer) cs
+    → map judged cs ≡ map (λ (c : Case). accepted) cs → AllWork cs
+all-work [] p q = tt
+all-work (c ∷ cs) p q = (works c (cc) (cc), all-work cs (cc) (cc))
+
+-- cases 1 to 12
+pub worked-calls : AllWork cases
+worked-calls = all-work cases worked accepted-cases

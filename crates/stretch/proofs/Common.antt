@@ -51,6 +51,10 @@ unfolding lcp
 lcp-past [] xs ys = sym (zero-add (lcp xs ys))
 lcp-past (z ∷ zs) xs ys = rw (eq-eqb z z refl, lcp-past zs xs ys) (omega arith)
 
+-- what both begin with is no longer than lcp
+pub lcp-longest : (xs ys zs us vs : List ℕ) → xs ≡ zs ++ us → ys ≡ zs ++ vs → length zs ≤ lcp xs ys
+lcp-longest xs ys zs us vs p q = rw (p, q, lcp-past zs us vs) (omega arith)
+
 pub lcp-heads : (x y : ℕ) (xs ys : List ℕ) → (x ≡ y → ⊥) → lcp (x ∷ xs) (y ∷ ys) ≡ 0
 unfolding lcp
 lcp-heads x y xs ys n = rw (ne-eqb x y n)

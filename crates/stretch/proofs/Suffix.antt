@@ -54,6 +54,10 @@ unfolding lcs
 lcs-past xs ys zs =
     rw (reverse-append xs zs, reverse-append ys zs, lcp-past (reverse zs) (reverse xs) (reverse ys), length-reverse zs)
 
+-- what both end in is no longer than lcs
+pub lcs-longest : (xs ys zs us vs : List ℕ) → xs ≡ us ++ zs → ys ≡ vs ++ zs → length zs ≤ lcs xs ys
+lcs-longest xs ys zs us vs p q = rw (p, q, lcs-past us vs zs) (omega arith)
+
 pub lcs-within : (xs ys zs : List ℕ) → lcs xs ys < length ys → lcs xs (zs ++ ys) ≡ lcs xs ys
 unfolding lcs
 lcs-within xs ys zs h =

@@ -1,7 +1,7 @@
 -- Texts laid one behind the other.
 use Prim.Native.Nat.{ℕ, _+_, _-_, _<_, _≤_}
 use native.Mathlib.Omega.{arith}
-use mathlib.Core.Path.{_≡_, refl, _∙_, ap}
+use mathlib.Core.Path.{_≡_, refl, _∙_, sym, ap}
 use mathlib.Core.List.{List, [], _∷_, _++_}
 use lib.ListN.{length, take, set, length-append}
 use Rattle.stretch.specs.Over.{over, Wrote}
@@ -10,6 +10,10 @@ use Rattle.stretch.proofs.Over.{over-next, set-over, length-over, take-
 -- a text laid over a buffer that has room for it
 pub wrote : (l : List ℕ) (at : ℕ) (s left : List ℕ) (n : ℕ) → at + length s ≤ length l → n ≡ at + length s → left ≡ over l at s → Wrote l at s left n
 wrote l at s left n h e w = record { next = e; laid = w; room = omega (arith, ap length w, length-over l at s h) }
+
+-- a write leaves one content and ends at one place
+pub wrote-once : (l : List ℕ) (at : ℕ) (s left₁ left₂ : List ℕ) (n₁ n₂ : ℕ) → Wrote l at s left₁ n₁ → Wrote l at s left₂ n₂ → (left₁ ≡ left₂) × (n₁ ≡ n₂)
+wrote-once l at s left₁ left₂ n₁ n₂ p q = (p .laid ∙ sym (q .laid), p .next ∙ sym (q .next))
 
 -- what stands at the front of a buffer that it is laid over
 pub wrote-front : (l s left : List ℕ) (n : ℕ) → Wrote l 0 s left n → take (n - 0) left ≡ s
