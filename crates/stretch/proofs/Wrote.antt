@@ -12,7 +12,8 @@ pub wrote : (l : List ℕ) (at : ℕ) (s left : List ℕ) (n : ℕ) → at + len
 wrote l at s left n h e w = record { next = e; laid = w; room = omega (arith, ap length w, length-over l at s h) }
 
 -- a write leaves one content and ends at one place
-pub wrote-once : (l : List ℕ) (at : ℕ) (s left₁ left₂ : List ℕ) (n₁ n₂ : ℕ) → Wrote l at s left₁ n₁ → Wrote l at s left₂ n₂ → (left₁ ≡ left₂) × (n₁ ≡ n₂)
+pub wrote-once : (l : List ℕ) (at : ℕ) (s left₁ left₂ : List ℕ) (n₁ n₂ : ℕ)
+    → Wrote l at s left₁ n₁ → Wrote l at s left₂ n₂ → (left₁ ≡ left₂) × (n₁ ≡ n₂)
 wrote-once l at s left₁ left₂ n₁ n₂ p q = (p .laid ∙ sym (q .laid), p .next ∙ sym (q .next))
 
 -- what stands at the front of a buffer that it is laid over
