@@ -16,9 +16,9 @@ pub fn flat_outcome(a: Outcome) -> FvOutcome
             refusal: 0,
             value: 0,
         },
-        Outcome::Refused(why) => FvOutcome {
-            refusal: why.number,
-            value: why.value,
+        Outcome::Refused(refused) => FvOutcome {
+            refusal: refused.number,
+            value: refused.value,
         },
     }
 }
@@ -54,10 +54,10 @@ pub fn flat_undone(a: Undone) -> FvUndone
     ensures { λ r. ⌜ r ≡ flatUndone a ⌝ }
 {
     match a {
-        Undone::Number(number) => FvUndone {
+        Undone::Number(undone) => FvUndone {
             refusal: 0,
             value: 0,
-            number,
+            number: undone,
         },
         Undone::Refused(why) => FvUndone {
             refusal: why.number,
