@@ -16,9 +16,11 @@ use Rattle.running.proofs.Promises.{feeds-once}
 use Rattle.locations.specs.Calls.{SaysLocation, IdentifiesLocation}
 use Rattle.identify.specs.Calls.{SaysAllele, IdentifiesAllele}
 use Rattle.entering.specs.Calls.{Enters}
-use Rattle.register.specs.Calls.{Blanks, Withdraws, Undoes, Seals}
+use Rattle.blank.specs.Calls.{Blanks}
+use Rattle.register.specs.Calls.{Withdraws, Undoes, Seals}
 use Rattle.entering.proofs.Promises.{enters-once}
-use Rattle.register.proofs.Promises.{blanks-once, withdraws-once, undoes-once, seals-once}
+use Rattle.blank.proofs.Promises.{blanks-once}
+use Rattle.register.proofs.Promises.{withdraws-once, undoes-once, seals-once}
 use Rattle.flat.specs.declared.FvAllele.{FvAllele}
 use Rattle.flat.specs.declared.FvEntered.{FvEntered}
 use Rattle.flat.specs.declared.FvForm.{FvForm}

@@ -26,7 +26,8 @@ ghost use Rattle.running.specs.Calls.{Feeds};
 ghost use Rattle.locations.specs.Calls.{SaysLocation, IdentifiesLocation};
 ghost use Rattle.identify.specs.Calls.{SaysAllele, IdentifiesAllele};
 ghost use Rattle.entering.specs.Calls.{Enters};
-ghost use Rattle.register.specs.Calls.{Blanks, Withdraws, Undoes, Seals};
+ghost use Rattle.blank.specs.Calls.{Blanks};
+ghost use Rattle.register.specs.Calls.{Withdraws, Undoes, Seals};
 ghost use Rattle.flat.specs.Flat.{flatWritten, flatForm, flatLocation, flatAllele, flatOutcome, flatEntered, flatUndone, Flattened};
 
 // As `digest::sequence_identifier`.
@@ -162,7 +163,7 @@ pub extern "C" fn fv_read_allele(text: &[u8]) -> FvAllele
     flat_allele(reading::read_allele(text))
 }
 
-// As `register::blank`.
+// As `blank::blank`.
 #[no_mangle]
 pub extern "C" fn fv_blank(
     image: &mut [u8],
@@ -174,7 +175,7 @@ pub extern "C" fn fv_blank(
 ) -> FvOutcome
     ensures { λ r. ⌜ Flattened flatOutcome (λ a. Blanks (now (image .entry)) residues (now (digest .entry)) records journal pool a (now (image .exit))) r ⌝ }
 {
-    flat_outcome(register::blank(image, residues, digest, records, journal, pool))
+    flat_outcome(blank::blank(image, residues, digest, records, journal, pool))
 }
 
 // As `entering::entry`.

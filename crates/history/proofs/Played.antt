@@ -17,7 +17,8 @@ use Rattle.records.specs.Lookup.{holds, lowest, lowestHolding}
 use Rattle.entering.specs.Found.{found}
 use Rattle.records.specs.Changes.{blanked, journalled, marked, withdrawn, reentered, recorded, pooled, counted, numbered, latest, undone, sealed}
 use Rattle.entering.specs.Calls.{imageGrounds, changeGrounds, entryGrounds, Enters}
-use Rattle.register.specs.Calls.{blankGrounds, withdrawalGrounds, Withdraws, undoGrounds, Undoes, Seals}
+use Rattle.blank.specs.Calls.{blankGrounds}
+use Rattle.register.specs.Calls.{withdrawalGrounds, Withdraws, undoGrounds, Undoes, Seals}
 use Rattle.history.specs.Runs.{Run, enters, withdraws, undoes, seals}
 use Rattle.history.specs.Example.{Played, reference, digest, events, blank, one, oneUndone, two, oneAgain, oneWithdrawn, closed}
 

@@ -10,8 +10,8 @@ use Rattle.image.specs.Formed.{wellFormed}
 use Rattle.refusal.proofs.Verdict.{outcome-accepted}
 use Rattle.refusal.specs.Verdict.{verdict}
 use Rattle.records.specs.Changes.{blanked}
-use Rattle.register.specs.Calls.{Blanks, blankGrounds}
-use Rattle.register.proofs.BlankTests.{blankable}
+use Rattle.blank.specs.Calls.{Blanks, blankGrounds}
+use Rattle.blank.proofs.BlankTests.{blankable}
 use Rattle.history.proofs.SeenBlank.{blanked-seen}
 use Rattle.history.proofs.BlankFormed.{fresh-formed}
 use Rattle.history.specs.Events.{Way, Event, entry, undo}

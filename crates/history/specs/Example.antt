@@ -12,7 +12,8 @@ use Rattle.entering.specs.declared.Entered.the-variants.{New, Again, Known, Ref
 use Rattle.register.specs.declared.Undone.the-variants.{Number}
 use Rattle.records.specs.Changes.{blanked, numbered, reentered, withdrawn, undone, sealed}
 use Rattle.entering.specs.Calls.{Enters}
-use Rattle.register.specs.Calls.{Blanks, Withdraws, Undoes, Seals}
+use Rattle.blank.specs.Calls.{Blanks}
+use Rattle.register.specs.Calls.{Withdraws, Undoes, Seals}
 use Rattle.history.specs.Events.{Event, entry, new, again, known, undo, withdrawal, seal, refusal}
 
 -- the reference, its digest, and a buffer of just the room, filled with some byte

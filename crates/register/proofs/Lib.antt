@@ -1,3 +1,2 @@
-pub mod BlankTests
 pub mod Latest
 pub mod Promises

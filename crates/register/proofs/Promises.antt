@@ -5,14 +5,10 @@ use mathlib.Core.List.{List}
 use Rattle.refusal.specs.declared.Outcome.{Outcome}
 use Rattle.records.proofs.Does.{does-once}
 use Rattle.register.specs.declared.Undone.{Undone}
-use Rattle.register.specs.Calls.{Blanks, Withdraws, Undoes, Seals}
+use Rattle.register.specs.Calls.{Withdraws, Undoes, Seals}
 
 module _ (b l₁ l₂ : List ℕ) where
   module _ (a₁ a₂ : Outcome) where
-    pub blanks-once : (n : ℕ) (digest : List ℕ) (records journal pool : ℕ)
-        → Blanks b n digest records journal pool a₁ l₁ → Blanks b n digest records journal pool a₂ l₂ → (a₁ ≡ a₂) × (l₁ ≡ l₂)
-    blanks-once n digest records journal pool = does-once _ _ _ _ _ a₁ a₂ l₁ l₂
-
     pub withdraws-once : (i : ℕ) → Withdraws b i a₁ l₁ → Withdraws b i a₂ l₂ → (a₁ ≡ a₂) × (l₁ ≡ l₂)
     unfolding Withdraws
     withdraws-once i = does-once _ _ _ _ _ a₁ a₂ l₁ l₂

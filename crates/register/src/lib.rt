@@ -1,12 +1,10 @@
-// The register's calls on a lent image (document 01, "The register image"), but for entry, which is in
-// `entering`.
+// Withdrawal, undo and seal, on a lent image (document 01, "The register image"). A blank image is made in
+// `blank`, and entry is in `entering`.
 //
 // specs/Calls.antt has what the calls promise.
-mod header;
 mod undoing;
 mod withdrawal;
 
-pub use header::blank;
 pub use undoing::seal;
 pub use undoing::undo;
 pub use withdrawal::withdraw;

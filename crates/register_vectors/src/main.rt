@@ -64,7 +64,7 @@ fn blank(image: &mut [u8], records: u64, journal: u64, pool: u64) {
     labelled(b" ", records);
     labelled(b" ", journal);
     labelled(b" ", pool);
-    done(register::blank(image, residues, &DIGEST, records, journal, pool));
+    done(blank::blank(image, residues, &DIGEST, records, journal, pool));
     left(image);
 }
 

@@ -5,10 +5,10 @@ use borrow.Author.Needs.{needs}
 use Rattle.refusal.specs.Verdict.{verdict}
 use Rattle.refusal.proofs.Verdict.{outcome-accepted, outcome-refused}
 use Rattle.records.proofs.Does.{does-refused, does-accepted}
-use Rattle.register.specs.Calls.{blankGrounds}
-use Rattle.register.proofs.BlankTests.{blankable}
-use Rattle.register.proofs.header.blank.Statement.{statement}
-use Rattle.register.proofs.header.blank.Tie as tie
+use Rattle.blank.specs.Calls.{blankGrounds}
+use Rattle.blank.proofs.BlankTests.{blankable}
+use Rattle.blank.proofs.header.blank.Statement.{statement}
+use Rattle.blank.proofs.header.blank.Tie as tie
 
 check-blank-requires : tie.Need-check-blank-requires
 check-blank-requires c κs = search needs

@@ -2,8 +2,8 @@
 use mathlib.Core.Path.{refl}
 use borrow.Author.Needs.{needs}
 use Rattle.records.proofs.Rows.{header-laid}
-use Rattle.register.proofs.header.write_header.Statement.{statement}
-use Rattle.register.proofs.header.write_header.Tie as tie
+use Rattle.blank.proofs.header.write_header.Statement.{statement}
+use Rattle.blank.proofs.header.write_header.Tie as tie
 
 mul-journal-at : tie.Need-mul-journal-at
 mul-journal-at c = search needs

@@ -1,8 +1,8 @@
 -- Each return is what the grounds say, by the tests that led there.
 use borrow.Author.Tests.{lt-ltb, le-ltb}
 use borrow.Author.Needs.{needs}
-use Rattle.register.proofs.header.check_capacities.Statement.{statement}
-use Rattle.register.proofs.header.check_capacities.Tie as tie
+use Rattle.blank.proofs.header.check_capacities.Statement.{statement}
+use Rattle.blank.proofs.header.check_capacities.Tie as tie
 
 refuse-requires : tie.Need-refuse-requires
 refuse-requires c κs = search needs

@@ -2,10 +2,10 @@
 use mathlib.Core.Path.{_∙_, sym}
 use borrow.Author.Tests.{lt-ltb, le-ltb}
 use borrow.Author.Needs.{needs}
-use Rattle.register.specs.Calls.{blankGrounds}
-use Rattle.register.proofs.BlankTests.{blank-then, blank-digest}
-use Rattle.register.proofs.header.check_blank.Statement.{statement}
-use Rattle.register.proofs.header.check_blank.Tie as tie
+use Rattle.blank.specs.Calls.{blankGrounds}
+use Rattle.blank.proofs.BlankTests.{blank-then, blank-digest}
+use Rattle.blank.proofs.header.check_blank.Statement.{statement}
+use Rattle.blank.proofs.header.check_blank.Tie as tie
 
 refuse-requires : tie.Need-refuse-requires
 refuse-requires c κs = search needs

@@ -14,8 +14,8 @@ use Rattle.refusal.proofs.Verdict.{none-holds, verdict-first, verdict-then, ver
 use Rattle.letters.specs.Letters.{base64url, every, digestTextGrounds, digestTextAnswer}
 use Rattle.letters.proofs.DigestText.{digest-long, digest-all}
 use Rattle.image.specs.Fields.{countLimit, poolLimit, imageSize}
-use Rattle.register.specs.Calls.{capacityGrounds, blankGrounds}
-use Rattle.register.specs.Inner.{capacityAnswer, blankAnswer}
+use Rattle.blank.specs.Calls.{capacityGrounds, blankGrounds}
+use Rattle.blank.specs.Inner.{capacityAnswer, blankAnswer}
 
 -- 9 behind 1 and 7
 module _ (room n : ℕ) (digest : List ℕ) (records journal pool : ℕ) where

@@ -1,12 +1,12 @@
--- What the functions behind the calls' tests promise.
+-- What the functions behind a blank's tests promise.
 use Prim.Native.Nat.{ℕ}
 use mathlib.Core.List.{List}
 use Rattle.refusal.specs.Verdict.{verdict, tell}
 use Rattle.refusal.specs.declared.Outcome.{Outcome}
 use Rattle.refusal.specs.declared.Outcome.the-variants.{Accepted, Refused}
-use Rattle.register.specs.Calls.{capacityGrounds, blankGrounds}
+use Rattle.blank.specs.Calls.{capacityGrounds, blankGrounds}
 
--- blank: 9 alone, and all of its grounds
+-- 9 alone, and all of its grounds
 abbrev pub capacityAnswer : ℕ → ℕ → ℕ → ℕ → Outcome
 capacityAnswer room records journal pool = tell Refused (verdict (capacityGrounds room records journal pool)) Accepted
 

@@ -24,8 +24,8 @@ ghost use Prim.Native.Nat.{_≤_};
 ghost use lib.ListN.{length};
 ghost use Rattle.image.specs.Fields.{headerSize, countLimit};
 ghost use Rattle.records.specs.Changes.{blanked};
-ghost use Rattle.register.specs.Calls.{Blanks};
-ghost use Rattle.register.specs.Inner.{capacityAnswer, blankAnswer};
+ghost use Rattle.blank.specs.Calls.{Blanks};
+ghost use Rattle.blank.specs.Inner.{capacityAnswer, blankAnswer};
 
 // 9: the capacities, then the buffer, of that much room.
 fn check_capacities(room: u64, records: u64, journal: u64, pool: u64) -> Outcome

@@ -1,0 +1,2 @@
+pub mod BlankTests
+pub mod Promises
