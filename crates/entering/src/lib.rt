@@ -1,4 +1,5 @@
-// Entry of an allele into a register's image (document 01, "Entry"). The other calls are in `register`.
+// Entry of an allele into a register's image (document 01, "Entry"). A blank image is made in `blank`, and
+// the other calls are in `register`.
 //
 // specs/Found.antt has what an entry is answered and leaves, and specs/Calls.antt what it promises.
 mod allele;
