@@ -10,7 +10,7 @@ use Rattle.stretch.proofs.Below.{below-at}
 use Rattle.letters.specs.Letters.{base64url, every}
 use Rattle.letters.proofs.Class.{every-append}
 use Rattle.sha512.specs.Message.{sha512}
-use Rattle.sha512.proofs.Numbers.{length-sha512, sha512-bytes}
+use Rattle.sha512.proofs.Bytes.{length-sha512, sha512-bytes}
 use Rattle.encoding.specs.Base64.{character, group, encoded}
 use Rattle.encoding.specs.Digest.{digestText, sha512t24u}
 use Rattle.encoding.proofs.Encoding.{encoded-more}

@@ -13,7 +13,7 @@ use Rattle.stretch.proofs.Over.{over-next, over-tail-front}
 use Rattle.stretch.specs.Below.{below}
 use Rattle.stretch.proofs.Below.{below-at}
 use Rattle.sha512.specs.Message.{sha512}
-use Rattle.sha512.proofs.Numbers.{length-sha512}
+use Rattle.sha512.proofs.Bytes.{length-sha512}
 use Rattle.encoding.specs.Base64.{character, group, encoded}
 use Rattle.encoding.specs.Digest.{digestText, sha512t24u}
 

@@ -12,9 +12,10 @@ use Rattle.compression.specs.declared.Hash.{Hash}
 use Rattle.sha512.specs.declared.Running.{Running}
 use Rattle.compression.specs.Constants.{initial}
 use Rattle.compression.specs.Blocks.{hashed}
-use Rattle.sha512.specs.Message.{rest, padding, sha512}
+use Rattle.padding.specs.Padding.{padding}
+use Rattle.padding.proofs.Padding.{drop-replicate}
+use Rattle.sha512.specs.Message.{rest, sha512}
 use Rattle.sha512.specs.Parts.{filled, begun, waiting, after, fed, joined, fedAll, finished}
-use Rattle.sha512.proofs.Padding.{drop-replicate}
 use Rattle.sha512.proofs.Blocks.{hashed-on, rest-on, hashed-short, rest-short, rest-block, length-rest}
 
 pub take-filled : (s : List ℕ) (n : ℕ) → n ≡ length s → take n (filled s) ≡ s

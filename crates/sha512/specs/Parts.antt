@@ -6,7 +6,8 @@ use Rattle.compression.specs.declared.Hash.{Hash}
 use Rattle.sha512.specs.declared.Running.{Running}
 use Rattle.compression.specs.Constants.{initial}
 use Rattle.compression.specs.Blocks.{hashed}
-use Rattle.sha512.specs.Message.{padding, rest, hashBytes}
+use Rattle.padding.specs.Padding.{padding, hashBytes}
+use Rattle.sha512.specs.Message.{rest}
 
 -- a block that begins with some bytes and goes on with zeros
 unfoldable pub filled : List ℕ → List ℕ

@@ -1,49 +1,13 @@
-// The end of a message: padding (FIPS 180-4, section 5.1.2) and the digest's bytes.
+// The end of a message: its padding, and the digest.
 use super::Running;
-use super::big_endian::put_four;
-use super::big_endian::write_number;
 use super::parts::begin;
 use super::parts::feed;
-use compression::Hash;
 use compression::absorb;
-use stretch::copy;
+use padding::hash_bytes;
+use padding::pad;
 ghost use mathlib.Core.Path.{_≡_};
-ghost use mathlib.Core.List.{_++_};
-ghost use Prim.Native.Nat.{_+_, _-_, _*_, _%_, _≤_};
-ghost use lib.ListN.{length, replicate};
-ghost use Rattle.stretch.specs.Over.{over};
-ghost use Rattle.sha512.specs.Message.{bytesOf, padding, hashBytes, sha512};
+ghost use Rattle.sha512.specs.Message.{sha512};
 ghost use Rattle.sha512.specs.Parts.{finished};
-
-// Lays the count of bits of `total` bytes over the end of `out`, as a 128-bit number.
-fn put_length(out: &mut [u8], total: u64)
-    requires { ⌜ 16 ≤ length (now out) ⌝ }
-    ensures { λ _. ⌜ now (out .exit) ≡ over (now (out .entry)) (length (now (out .entry)) - 16) (bytesOf 16 (total * 8)) ⌝ }
-{
-    let end = out.len();
-    write_number(&mut out[end - 16..end - 1], total / 32);
-    out[end - 1] = (total % 32 * 8) as u8;
-}
-
-// Fills `out`, which holds zeros, with `head` and the padding of a message of `total` bytes.
-fn pad(out: &mut [u8], head: &[u8], total: u64)
-    requires { ⌜ length (now head) ≡ total % 128 ⌝ }
-    requires { ⌜ now out ≡ replicate (length (now head) + length (padding total)) 0 ⌝ }
-    ensures { λ _. ⌜ now (out .exit) ≡ now (head .entry) ++ padding total ⌝ }
-{
-    copy(out, head);
-    out[head.len()] = 0x80;
-    put_length(out, total);
-}
-
-fn bytes(s: Hash) -> [u8; 64]
-    ensures { λ r. ⌜ r ≡ hashBytes s ⌝ }
-{
-    let mut out = [0u8; 64];
-    put_four(&mut out, 0, s.a, s.b, s.c, s.d);
-    put_four(&mut out, 32, s.e, s.f, s.g, s.h);
-    out
-}
 
 // The digest of all that was fed. The bytes that wait and the padding make one block or two.
 pub fn finish(state: Running) -> [u8; 64]
@@ -56,11 +20,11 @@ pub fn finish(state: Running) -> [u8; 64]
     if waiting < 112 {
         let mut last = [0u8; 128];
         pad(&mut last, &block[..waiting], total);
-        return bytes(absorb(hash, &last));
+        return hash_bytes(absorb(hash, &last));
     }
     let mut last = [0u8; 256];
     pad(&mut last, &block[..waiting], total);
-    bytes(absorb(hash, &last))
+    hash_bytes(absorb(hash, &last))
 }
 
 // The digest of a message that comes whole.

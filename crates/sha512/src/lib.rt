@@ -2,7 +2,6 @@
 // Crates `encoding`, `digest`, `locations` and `identify` stand on it. specs/ has the standard's padding
 // and digest; proofs/Join.antt the law that parts fed one after another and finished give the digest of
 // their join.
-mod big_endian;
 mod last_block;
 mod parts;
 

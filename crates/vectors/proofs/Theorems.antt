@@ -6,7 +6,8 @@ use Rattle.stretch.specs.BigEndian.{bigEndian}
 use Rattle.compression.specs.Constants.{K}
 use Rattle.compression.specs.Block.{blockWords, schedule, roundAt, rounds, compressed}
 use Rattle.compression.specs.Blocks.{absorbed, hashed}
-use Rattle.sha512.specs.Message.{bytesOf, padding, fourWords, hashBytes, sha512}
+use Rattle.padding.specs.Padding.{bytesOf, padding, fourWords, hashBytes}
+use Rattle.sha512.specs.Message.{sha512}
 use Rattle.encoding.specs.Base64.{character, encoded}
 use Rattle.encoding.specs.Digest.{digestText, sha512t24u}
 

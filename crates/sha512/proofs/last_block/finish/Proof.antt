@@ -5,7 +5,7 @@ use mathlib.Core.Path.{_≡_, sym}
 use lib.ListN.{take, length}
 use lib.Seq.{length-take-le}
 use borrow.Author.Needs.{needs}
-use Rattle.sha512.proofs.Padding.{zeros-for}
+use Rattle.padding.proofs.Padding.{zeros-for}
 use Rattle.sha512.specs.Parts.{finished, waiting}
 use Rattle.sha512.proofs.last_block.finish.Statement.{statement}
 use Rattle.sha512.proofs.last_block.finish.Tie as tie
@@ -35,8 +35,8 @@ slice-aggregate-absorb c = search needs
 absorb-requires : tie.Need-absorb-requires
 absorb-requires c κs = search needs
 
-bytes-requires : tie.Need-bytes-requires
-bytes-requires c κs = search needs
+hash-bytes-requires : tie.Need-hash-bytes-requires
+hash-bytes-requires c κs = search needs
 
 returns : tie.Need-returns
 unfolding finished waiting
@@ -61,8 +61,8 @@ slice-aggregate-absorb-2 c = search needs
 absorb-requires-2 : tie.Need-absorb-requires-2
 absorb-requires-2 c κs = search needs
 
-bytes-requires-2 : tie.Need-bytes-requires-2
-bytes-requires-2 c κs = search needs
+hash-bytes-requires-2 : tie.Need-hash-bytes-requires-2
+hash-bytes-requires-2 c κs = search needs
 
 returns-2 : tie.Need-returns-2
 unfolding finished waiting
@@ -78,7 +78,7 @@ finish-spec =
     pad-requires
     slice-aggregate-absorb
     absorb-requires
-    bytes-requires
+    hash-bytes-requires
     returns
     slice-aggregate-pad-3
     array-share-prefix-block-2
@@ -86,5 +86,5 @@ finish-spec =
     pad-requires-2
     slice-aggregate-absorb-2
     absorb-requires-2
-    bytes-requires-2
+    hash-bytes-requires-2
     returns-2)

@@ -3,10 +3,10 @@ use Prim.Native.Nat.{_+_}
 use native.Mathlib.Omega.{arith}
 use mathlib.Core.Path.{_≡_, _∙_, ap}
 use lib.ListN.{length, length-set, length-replicate}
-use Rattle.sha512.specs.Message.{padding}
-use Rattle.sha512.proofs.Padding.{length-padding, pad-laid}
-use Rattle.sha512.proofs.last_block.pad.Statement.{statement}
-use Rattle.sha512.proofs.last_block.pad.Tie as tie
+use Rattle.padding.specs.Padding.{padding}
+use Rattle.padding.proofs.Padding.{length-padding, pad-laid}
+use Rattle.padding.proofs.last_block.pad.Statement.{statement}
+use Rattle.padding.proofs.last_block.pad.Tie as tie
 
 long : (c : tie.Start) → length (c .args .out .now) ≡ length (c .args .head .now) + length (padding (c .args .total))
 long c = ap length (c .pre .1) ∙ length-replicate _ _

@@ -2,9 +2,9 @@
 use Prim.Native.Nat.{_+_, _-_}
 use native.Mathlib.Omega.{arith}
 use borrow.Author.Needs.{needs}
-use Rattle.sha512.proofs.Numbers.{put-number}
-use Rattle.sha512.proofs.big_endian.put_word.Statement.{statement}
-use Rattle.sha512.proofs.big_endian.put_word.Tie as tie
+use Rattle.padding.proofs.Numbers.{put-number}
+use Rattle.padding.proofs.big_endian.put_word.Statement.{statement}
+use Rattle.padding.proofs.big_endian.put_word.Tie as tie
 
 add-write-number : tie.Need-add-write-number
 add-write-number c = search needs

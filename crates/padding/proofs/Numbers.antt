@@ -8,7 +8,8 @@ use lib.ListN.{length, getD, take, drop, set, length-append, length-drop, length
 use lib.Seq.{length-take-le, drop-cons, drop-set-lt, getD-set-same}
 use Rattle.stretch.specs.Over.{over}
 use Rattle.stretch.proofs.Over.{over-next, set-over, length-over}
-use Rattle.sha512.specs.Message.{bytesOf, fourWords, hashBytes, sha512}
+use Rattle.compression.specs.declared.Hash.{Hash}
+use Rattle.padding.specs.Padding.{bytesOf, fourWords, hashBytes}
 
 pub length-bytesOf : (n x : ℕ) → length (bytesOf n x) ≡ n
 unfolding bytesOf
@@ -49,9 +50,9 @@ pub length-fourWords : (a b c d : ℕ) → length (fourWords a b c d) ≡ 32
 unfolding fourWords
 length-fourWords a b c d = simp (length-append, length-bytesOf)
 
-pub length-sha512 : (m : List ℕ) → length (sha512 m) ≡ 64
-unfolding sha512 hashBytes
-length-sha512 m = simp (length-append, length-fourWords)
+pub length-hashBytes : (s : Hash) → length (hashBytes s) ≡ 64
+unfolding hashBytes
+length-hashBytes s = simp (length-append, length-fourWords)
 
 -- every byte of it is below 256, as every byte of a number is
 bytes-append : (xs ys : List ℕ) → ((i : ℕ) → getD xs i 0 < 256) → ((i : ℕ) → getD ys i 0 < 256) → (i : ℕ) → getD (xs ++ ys) i 0 < 256
@@ -74,9 +75,9 @@ fourWords-bytes a b c d =
     bytes-append (bytesOf 8 a) _ (bytesOf-bytes 8 a)
     (bytes-append (bytesOf 8 b) _ (bytesOf-bytes 8 b) (bytes-append (bytesOf 8 c) (bytesOf 8 d) (bytesOf-bytes 8 c) (bytesOf-bytes 8 d)))
 
-pub sha512-bytes : (m : List ℕ) (i : ℕ) → getD (sha512 m) i 0 < 256
-unfolding sha512 hashBytes
-sha512-bytes m = bytes-append (fourWords _ _ _ _) (fourWords _ _ _ _) (fourWords-bytes _ _ _ _) (fourWords-bytes _ _ _ _)
+pub hashBytes-bytes : (s : Hash) (i : ℕ) → getD (hashBytes s) i 0 < 256
+unfolding hashBytes
+hashBytes-bytes s = bytes-append (fourWords _ _ _ _) (fourWords _ _ _ _) (fourWords-bytes _ _ _ _) (fourWords-bytes _ _ _ _)
 
 -- the bytes of a count of bits, from the count of bytes
 bits-bytes : (k n : ℕ) → bytesOf k (n / 32) ++ (n % 32 * 8 ∷ []) ≡ bytesOf (suc k) (n * 8)

@@ -6,10 +6,10 @@ use mathlib.Core.Path.{_∙_}
 use lib.ListN.{replicate, length-append}
 use borrow.Author.Needs.{needs}
 use Rattle.stretch.proofs.Over.{over-next, over-all}
-use Rattle.sha512.specs.Message.{hashBytes, fourWords}
-use Rattle.sha512.proofs.Numbers.{length-fourWords}
-use Rattle.sha512.proofs.last_block.bytes.Statement.{statement}
-use Rattle.sha512.proofs.last_block.bytes.Tie as tie
+use Rattle.padding.specs.Padding.{hashBytes, fourWords}
+use Rattle.padding.proofs.Numbers.{length-fourWords}
+use Rattle.padding.proofs.last_block.hash_bytes.Statement.{statement}
+use Rattle.padding.proofs.last_block.hash_bytes.Tie as tie
 
 slice-aggregate-put-four : tie.Need-slice-aggregate-put-four
 slice-aggregate-put-four c = search needs
@@ -32,8 +32,8 @@ returns c = let s = c .before .before .before .before .before .before .args .s i
     rw (c .before .put-four2 .ensures, c .before .before .before .before .put-four .ensures)
     (over-next zeros 0 32 left right (omega arith) (rw length-fourWords) ∙ over-all zeros (left ++ right) (simp (length-append, length-fourWords)))
 
-pub bytes-spec : {M : Type 1} → statement M
-bytes-spec =
+pub hash-bytes-spec : {M : Type 1} → statement M
+hash-bytes-spec =
     tie.close
     (tie.spec
     slice-aggregate-put-four

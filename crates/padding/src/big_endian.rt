@@ -2,7 +2,7 @@
 ghost use mathlib.Core.Path.{_≡_};
 ghost use Prim.Native.Nat.{_+_, _≤_};
 ghost use lib.ListN.{length};
-ghost use Rattle.sha512.specs.Message.{bytesOf, fourWords};
+ghost use Rattle.padding.specs.Padding.{bytesOf, fourWords};
 ghost use Rattle.stretch.specs.Over.{over};
 
 // Fills `out` with the lowest bytes of `x`.

@@ -1,9 +1,9 @@
 -- Four writes, each behind the one before, are one.
 use native.Mathlib.Omega.{arith}
 use borrow.Author.Needs.{needs}
-use Rattle.sha512.proofs.Numbers.{put-words}
-use Rattle.sha512.proofs.big_endian.put_four.Statement.{statement}
-use Rattle.sha512.proofs.big_endian.put_four.Tie as tie
+use Rattle.padding.proofs.Numbers.{put-words}
+use Rattle.padding.proofs.big_endian.put_four.Statement.{statement}
+use Rattle.padding.proofs.big_endian.put_four.Tie as tie
 
 put-word-requires : tie.Need-put-word-requires
 put-word-requires c κs = search needs

@@ -6,8 +6,8 @@ use mathlib.Core.List.{List, [], _∷_, _++_, append-assoc}
 use lib.ListN.{length, set, drop, replicate, length-append, length-set, length-replicate, replicate-append-replicate}
 use Rattle.stretch.specs.Over.{over}
 use Rattle.stretch.proofs.Over.{over-front, over-next, over-end, set-over, length-over}
-use Rattle.sha512.specs.Message.{bytesOf, padding}
-use Rattle.sha512.proofs.Numbers.{length-bytesOf}
+use Rattle.padding.specs.Padding.{bytesOf, padding}
+use Rattle.padding.proofs.Numbers.{length-bytesOf}
 
 pub drop-replicate : (k n a : ℕ) → drop n (replicate k a) ≡ replicate (k - n) a
 drop-replicate k zero a =

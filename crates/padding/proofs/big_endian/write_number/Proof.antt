@@ -5,10 +5,10 @@ use mathlib.Core.Path.{sym, _≡_, refl}
 use mathlib.Core.List.{append-nil, _++_}
 use lib.Seq.{drop-length}
 use lib.ListN.{length, drop, length-set}
-use Rattle.sha512.proofs.Numbers.{write-turn}
-use Rattle.sha512.specs.Message.{bytesOf}
-use Rattle.sha512.proofs.big_endian.write_number.Statement.{statement}
-use Rattle.sha512.proofs.big_endian.write_number.Tie as tie
+use Rattle.padding.proofs.Numbers.{write-turn}
+use Rattle.padding.specs.Padding.{bytesOf}
+use Rattle.padding.proofs.big_endian.write_number.Statement.{statement}
+use Rattle.padding.proofs.big_endian.write_number.Tie as tie
 
 abbrev Inv-loop : tie.InvT-loop
 Inv-loop out₀ x left₀ i₀ out left i = (i ≤ length out₀) × ((length out ≡ length out₀) × (bytesOf (length out₀) x ≡ bytesOf i left ++ drop i out))

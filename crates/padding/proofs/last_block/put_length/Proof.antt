@@ -3,9 +3,9 @@ use Prim.Native.Nat.{_-_}
 use native.Mathlib.Omega.{arith}
 use lib.ListN.{length}
 use borrow.Author.Needs.{needs}
-use Rattle.sha512.proofs.Numbers.{put-bits}
-use Rattle.sha512.proofs.last_block.put_length.Statement.{statement}
-use Rattle.sha512.proofs.last_block.put_length.Tie as tie
+use Rattle.padding.proofs.Numbers.{put-bits}
+use Rattle.padding.proofs.last_block.put_length.Statement.{statement}
+use Rattle.padding.proofs.last_block.put_length.Tie as tie
 
 sub-write-number : tie.Need-sub-write-number
 sub-write-number c = search needs
