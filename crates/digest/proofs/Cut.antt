@@ -1,4 +1,4 @@
--- Wherever a reference is cut into parts, its identifier is that of the whole call.
+-- Wherever a reference is cut into parts, the parts are taken where the whole is, and its identifier is that of the whole call.
 use Prim.Native.Nat.{ℕ, _+_, _≤_}
 use native.Mathlib.Omega.{arith}
 use mathlib.Core.Path.{_≡_, refl, sym}
@@ -13,14 +13,14 @@ use Rattle.refusal.specs.declared.Written.{Written}
 use Rattle.refusal.specs.Verdict.{accepted, verdict}
 use Rattle.refusal.proofs.Verdict.{none-holds, outcome-accepted}
 use Rattle.letters.specs.Letters.{residue, every, foreign}
-use Rattle.letters.proofs.Class.{every-append}
+use Rattle.letters.proofs.Class.{every-append, every-front}
 use Rattle.letters.proofs.Outside.{foreign-le, foreign-none, firstOutside-every}
 use Rattle.sha512.specs.declared.Running.{Running}
 use Rattle.sha512.specs.Parts.{begun, joined}
 use Rattle.sha512.proofs.Join.{Fed, fed-begun, fed-on, finished-is}
 use Rattle.encoding.specs.Digest.{sha512t24u}
 use Rattle.digest.specs.Identifier.{sequenceIdentifier}
-use Rattle.digest.specs.Calls.{partGrounds, feeding, feedingAll, AllTaken, Identifies, Finishes}
+use Rattle.digest.specs.Calls.{referenceGrounds, partGrounds, feeding, feedingAll, AllTaken, Identifies, Finishes}
 
 -- a state of so many residues, within the limit
 record Taken (state : Running) (residues : List ℕ) : Type 0 where
@@ -51,6 +51,33 @@ all-taken (part ∷ parts) state m t a =
 begun-taken : Taken begun []
 unfolding every
 begun-taken = record { fed-is = fed-begun; letters = refl; within = omega arith }
+
+-- letters behind those of a state are taken, as long as all of them are within the limit
+taken-next : (state : Running) (m part : List ℕ) → Taken state m → length (m ++ part) ≤ referenceLimit → every residue part ≡ true → feeding state part .outcome ≡ Accepted
+taken-next state m part t few all =
+    let total : state .total ≡ length m = t .fed-is .total-is in
+    let long : length (m ++ part) ≡ length m + length part = length-append m part in
+    let within : ltb referenceLimit (state .total + length part) ≡ false = le-ltb referenceLimit (state .total + length part) (omega arith) in
+    let none : ltb (foreign part) (length part) ≡ false = le-ltb (foreign part) (length part) (omega (arith, firstOutside-every residue part all)) in
+    rw (within, none)
+
+taken-each : (parts : List (List ℕ)) (state : Running) (m : List ℕ) → Taken state m → length (m ++ joined parts) ≤ referenceLimit → every residue (joined parts) ≡ true → AllTaken state parts
+taken-each [] state m t few all = tt
+taken-each (part ∷ parts) state m t few all =
+    let front : every residue part ≡ true = every-front residue part (joined parts) all in
+    let split : (m ++ part) ++ joined parts ≡ m ++ (part ++ joined parts) = append-assoc m part (joined parts) in
+    let long : length ((m ++ part) ++ joined parts) ≡ length (m ++ part) + length (joined parts) = length-append (m ++ part) (joined parts) in
+    let few′ : length ((m ++ part) ++ joined parts) ≤ referenceLimit = rw split few in
+    let here : feeding state part .outcome ≡ Accepted = taken-next state m part t (omega arith) front in
+    (here, taken-each parts (feeding state part .state) (m ++ part) (taken-on state m part t here) few′ (rw (every-append residue part (joined parts), front) at all))
+
+-- wherever a reference is cut that is within its limit and has no foreign byte, each part is taken, one after another
+pub cut-taken : (parts : List (List ℕ)) → verdict (referenceGrounds (joined parts)) ≡ accepted → AllTaken begun parts
+cut-taken parts v =
+    let whole = joined parts in
+    let passed = none-holds (referenceGrounds whole) v in
+    let none : foreign whole ≡ length whole = omega (arith, ltb-false (foreign whole) (length whole) (passed 1), foreign-le whole) in
+    taken-each parts begun [] begun-taken (ltb-false referenceLimit (length whole) (passed 0)) (foreign-none whole none)
 
 -- what finish promises after parts that were all taken is what the whole reference's call promises
 pub cut-anywhere : (parts : List (List ℕ)) → AllTaken begun parts → (out : List ℕ) (place : ℕ) (answer : Written) (left : List ℕ)

@@ -16,13 +16,16 @@ use Rattle.encoding.specs.Digest.{digestText}
 use Rattle.digest.specs.Identifier.{sequencePrefix, sequenceIdentifier}
 use Rattle.digest.specs.declared.Fed.{Fed}
 
--- a whole reference's identifier: 1, 4, 6
-abbrev pub wholeGrounds : List ℕ → ℕ → ℕ → List Ground
-wholeGrounds reference room place =
+-- what is asked of a whole reference: 1, 4
+abbrev pub referenceGrounds : List ℕ → List Ground
+referenceGrounds reference =
     ground (ltb referenceLimit (length reference)) 1 0
     ∷ ground (ltb (foreign reference) (length reference)) 4 (foreign reference)
-    ∷ outputTooShort room place 41
     ∷ []
+
+-- its identifier: these, then 6
+abbrev pub wholeGrounds : List ℕ → ℕ → ℕ → List Ground
+wholeGrounds reference room place = referenceGrounds reference ++ (outputTooShort room place 41 ∷ [])
 
 -- a part for the running digest: 1, 4
 abbrev pub partGrounds : ℕ → List ℕ → List Ground
