@@ -1,5 +1,5 @@
 // The compression function of SHA-512 (FIPS 180-4): what each block of 128 bytes makes of a hash value.
-// Crate `sha512` stands on it. specs/ has the standard's words, constants and rounds.
+// Crates `padding` and `sha512` stand on it. specs/ has the standard's words, constants and rounds.
 mod block;
 mod constants;
 mod words;

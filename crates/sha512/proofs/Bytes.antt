@@ -1,4 +1,4 @@
--- A digest has 64 bytes.
+-- A digest has 64 bytes, each below 256.
 use Prim.Native.Nat.{ℕ, _<_}
 use mathlib.Core.Path.{_≡_}
 use mathlib.Core.List.{List}
