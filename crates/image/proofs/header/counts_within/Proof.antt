@@ -29,7 +29,15 @@ returns : tie.Need-returns
 unfolding countsWithin
 returns c =
     let b = c .before .before .before .before .before .before .before .args .image .now in
-    cc (all-three (leb (issued b) (recordCapacity b)) (leb (journalCount b) (journalCapacity b)) (leb (poolUsed b) (poolCapacity b)))
+    rw (
+      c .before .before .before .before .before .read-number .ensures .0,
+      c .before .before .before .before .read-number2 .ensures .0,
+      c .before .before .before .read-number3 .ensures .0,
+      c .before .before .read-number4 .ensures .0,
+      c .before .read-number5 .ensures .0,
+      c .read-number6 .ensures .0,
+    )
+    (all-three (leb (issued b) (recordCapacity b)) (leb (journalCount b) (journalCapacity b)) (leb (poolUsed b) (poolCapacity b)))
 
 pub counts-within-spec : {M : Type 1} → statement M
 counts-within-spec =

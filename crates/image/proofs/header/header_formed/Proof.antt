@@ -28,7 +28,14 @@ has-room-requires c κs = search needs
 returns : tie.Need-returns
 returns c =
     let b = c .before .before .before .before .before .before .args .image .now in
-    cc (all-five (laidOut b) (countsWithin b) (withinLimits b) (every base64url (sequenceDigest b)) (leb (poolAt b + poolCapacity b) (length b)))
+    rw (
+      c .before .before .before .before .laid-out .ensures,
+      c .before .before .before .counts-within .ensures,
+      c .before .before .within-limits .ensures,
+      c .before .digest-formed .ensures,
+      c .has-room .ensures,
+    )
+    (all-five (laidOut b) (countsWithin b) (withinLimits b) (every base64url (sequenceDigest b)) (leb (poolAt b + poolCapacity b) (length b)))
 
 pub header-formed-spec : {M : Type 1} → statement M
 header-formed-spec =

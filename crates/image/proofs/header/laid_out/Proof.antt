@@ -41,7 +41,15 @@ returns : tie.Need-returns
 unfolding laidOut
 returns c =
     let b = c .before .before .before .before .before .before .before .args .image .now in
-    cc (all-four (eqb (edition b) 1) (eqb (recordsAt b) headerSize) (eqb (journalAt b) (journalPlace (recordCapacity b)))
+    rw (
+      c .before .before .before .before .before .read-number .ensures .0,
+      c .before .before .before .before .read-number2 .ensures .0,
+      c .before .before .before .read-number3 .ensures .0,
+      c .before .before .read-number4 .ensures .0,
+      c .before .read-number5 .ensures .0,
+      c .read-number6 .ensures .0,
+    )
+    (all-four (eqb (edition b) 1) (eqb (recordsAt b) headerSize) (eqb (journalAt b) (journalPlace (recordCapacity b)))
     (eqb (poolAt b) (poolPlace (recordCapacity b) (journalCapacity b))))
 
 pub laid-out-spec : {M : Type 1} → statement M

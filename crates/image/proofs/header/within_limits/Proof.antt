@@ -24,7 +24,13 @@ returns : tie.Need-returns
 unfolding withinLimits
 returns c =
     let b = c .before .before .before .before .before .args .image .now in
-    cc (all-four (leb (recordCapacity b) countLimit) (leb (journalCapacity b) countLimit) (leb (poolCapacity b) poolLimit) (leb (referenceLength b) referenceLimit))
+    rw (
+      c .before .before .before .read-number .ensures .0,
+      c .before .before .read-number2 .ensures .0,
+      c .before .read-number3 .ensures .0,
+      c .read-number4 .ensures .0,
+    )
+    (all-four (leb (recordCapacity b) countLimit) (leb (journalCapacity b) countLimit) (leb (poolCapacity b) poolLimit) (leb (referenceLength b) referenceLimit))
 
 pub within-limits-spec : {M : Type 1} → statement M
 within-limits-spec =

@@ -33,7 +33,13 @@ returns c =
     let s = c .before .before .before .before .before .args in
     let b = s .image .now in
     let end = number b (s .at + 4) in
-    cc (all-four (leb (number b (s .at)) end) (leb end (s .reference)) (leb (number b (s .at + 16)) 1) (eqb (number b (s .at + 8)) (s .before)))
+    rw (
+      c .before .before .before .read-number .ensures .0,
+      c .before .before .read-number2 .ensures .0,
+      c .before .read-number3 .ensures .0,
+      c .read-number4 .ensures .0,
+    )
+    (all-four (leb (number b (s .at)) end) (leb end (s .reference)) (leb (number b (s .at + 16)) 1) (eqb (number b (s .at + 8)) (s .before)))
 
 pub record-placed-spec : {M : Type 1} → statement M
 record-placed-spec =
