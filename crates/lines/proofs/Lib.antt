@@ -1,6 +1,3 @@
-pub mod Laying
-pub mod Replies
-pub mod Walk
+pub mod ByLine
 pub mod Promises
-pub mod Bound
 pub mod Worked

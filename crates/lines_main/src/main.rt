@@ -2,53 +2,27 @@
 // (document 01, "The line program").
 use libc::STDIN_FILENO;
 use libc::STDOUT_FILENO;
-use lines::answer;
-use refusal::Written;
-use saying::line_end;
-ghost use mathlib.Core.Path.{_≡_};
-ghost use Prim.Native.Nat.{_≤_};
-ghost use lib.ListN.{length};
+use lines::INPUT_LIMIT;
+use lines::ROOM;
+use lines::first_step;
+use lines::next_step;
+ghost use Rattle.lines.specs.Steps.{Fits};
 
-// Room for any answer: it has at most 57 bytes more than the reference and the line together
-// (lines/proofs/Bound.antt), and those are of an input of at most 65,536.
-fn room() -> [u8; 65600]
-    ensures { λ r. ⌜ 65600 ≡ length r ⌝ }
+// Prints what each step writes, while some of the input is left.
+fn print_answers(input: &[u8], out: &mut [u8])
+    requires { ⌜ Fits (now input) (now out) ⌝ }
 {
-    [0; 65600]
-}
-
-fn print_answer(reference: &[u8], line: &[u8], out: &mut [u8]) {
-    let answered = answer(reference, line, out);
-    let Written::Bytes(count) = answered else {
-        return;
-    };
-    let end = count as usize;
-    io::write_all(STDOUT_FILENO, &out[0..end]);
-}
-
-// Answers the lines of the input from `from` on.
-fn print_answers(reference: &[u8], input: &[u8], from: usize, out: &mut [u8])
-    requires { ⌜ length (now input) ≤ 65536 ⌝ }
-{
-    let mut at = from;
-    while at < input.len() {
-        let end = line_end(input, at);
-        print_answer(reference, &input[at..end], out);
-        at = end + 1;
+    let mut step = first_step(input);
+    while step.next < input.len() {
+        step = next_step(input, step, out);
+        let end = step.written;
+        io::write_all(STDOUT_FILENO, &out[0..end]);
     }
 }
 
-// The first line is the reference.
-fn print_all(input: &[u8], out: &mut [u8])
-    requires { ⌜ length (now input) ≤ 65536 ⌝ }
-{
-    let end = line_end(input, 0);
-    print_answers(&input[0..end], input, end + 1, out);
-}
-
 fn main() {
-    let mut space = io::large_buffer();
-    let count = io::read_full(STDIN_FILENO, &mut space);
-    let mut out = room();
-    print_all(&space[0..count], &mut out);
+    let mut input = [0u8; INPUT_LIMIT];
+    let count = io::read_full(STDIN_FILENO, &mut input);
+    let mut out = [0u8; ROOM];
+    print_answers(&input[0..count], &mut out);
 }

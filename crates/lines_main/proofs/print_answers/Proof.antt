@@ -1,48 +1,55 @@
--- A line ends behind its beginning and within the input.
-use Prim.Native.Nat.{_-_}
+-- Each step goes on in the input, and its answer lies in the buffer.
+use Prim.Native.Nat.{_-_, _<_}
 use native.Mathlib.Omega.{arith}
 use mathlib.Core.Path.{_≡_, refl}
 use lib.ListN.{length}
 use borrow.Author.Needs.{needs}
-use Rattle.saying.proofs.Cutting.{next-le}
 use Rattle.lines_main.proofs.print_answers.Statement.{statement}
 use Rattle.lines_main.proofs.print_answers.Tie as tie
 
 abbrev Inv-loop : tie.InvT-loop
-Inv-loop reference input from out₀ at₀ out at = length out ≡ length out₀
+Inv-loop input out₀ step₀ out step = (step .reference < step .next) × (length out ≡ length out₀)
 
 abbrev μ-loop : tie.MeasureT-loop
-μ-loop reference input from out₀ at₀ out at = length input - at
+μ-loop input out₀ step₀ out step = length input - step .next
+
+first-step-requires : tie.Need-first-step-requires Inv-loop μ-loop
+first-step-requires c κs = search needs
 
 loop-holds : tie.Need-loop-holds Inv-loop μ-loop
-loop-holds c = refl
+loop-holds c = (omega (arith, c .first-step .ensures .next), refl)
 
-line-end-requires : tie.Need-line-end-requires Inv-loop μ-loop
-line-end-requires c κs = search needs
+next-step-requires : tie.Need-next-step-requires Inv-loop μ-loop
+next-step-requires c κs = let l = c .before .before .before in
+    record {
+      behind = l .loop .inv .0;
+      left = c .before .if1 .taken;
+      room = omega (arith, l .loop .inv .1, l .before .before .before .before .pre .1);
+    }
 
-sub-print-answer : tie.Need-sub-print-answer Inv-loop μ-loop
-sub-print-answer c = omega (arith, c .line-end .ensures)
+sub-write-all : tie.Need-sub-write-all Inv-loop μ-loop
+sub-write-all c = search needs
 
-part-print-answer-start : tie.Need-part-print-answer-start Inv-loop μ-loop
-part-print-answer-start c = omega (arith, c .line-end .ensures)
+part-write-all-start : tie.Need-part-write-all-start Inv-loop μ-loop
+part-write-all-start c = search needs
 
-part-print-answer-end : tie.Need-part-print-answer-end Inv-loop μ-loop
-part-print-answer-end c = let l = c .before .before in omega (arith, c .line-end .ensures, next-le 10 (l .before .before .before .before .args .input .now) (l .loop .at) (omega arith))
+part-write-all-end : tie.Need-part-write-all-end Inv-loop μ-loop
+part-write-all-end c = c .before .before .before .next-step .ensures .line .room
 
-print-answer-requires : tie.Need-print-answer-requires Inv-loop μ-loop
-print-answer-requires c κs = search needs
-
-add-at : tie.Need-add-at Inv-loop μ-loop
-add-at c = let d = c .before .before .before .before .before in let l = d .before .before in omega (arith, d .line-end .ensures, next-le 10 (l .before .before .before .before .args .input .now) (l .loop .at) (omega arith), l .before .before .before .before .pre)
+write-all-requires : tie.Need-write-all-requires Inv-loop μ-loop
+write-all-requires c κs = search needs
 
 loop-less : tie.Need-loop-less Inv-loop μ-loop
-loop-less c = let d = c .before .before .before .before .before in omega (arith, d .line-end .ensures, d .before .loop-test .taken)
+loop-less c = let d = c .before .before .before .before .before in
+    omega (arith, d .next-step .ensures .next, d .before .before .if1 .taken)
 
 loop-again : tie.Need-loop-again Inv-loop μ-loop
-loop-again c = search needs
+loop-again c = let d = c .before .before .before .before .before in
+    let l = d .before .before .before .before in
+    (omega (arith, d .next-step .ensures .reference, d .next-step .ensures .next, l .loop .inv .0), omega (arith, d .next-step .kept .1 .1 .0, l .loop .inv .1))
 
 same-length : tie.Need-same-length Inv-loop μ-loop
-same-length c = c .before .loop .inv
+same-length c = c .before .before .loop .inv .1
 
 returns : tie.Need-returns Inv-loop μ-loop
 returns c = search needs
@@ -53,13 +60,13 @@ print-answers-spec =
     (tie.spec
     Inv-loop
     μ-loop
+    first-step-requires
     loop-holds
-    line-end-requires
-    sub-print-answer
-    part-print-answer-start
-    part-print-answer-end
-    print-answer-requires
-    add-at
+    next-step-requires
+    sub-write-all
+    part-write-all-start
+    part-write-all-end
+    write-all-requires
     loop-less
     loop-again
     same-length

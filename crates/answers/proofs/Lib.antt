@@ -1,0 +1,4 @@
+pub mod Laying
+pub mod Replies
+pub mod Promises
+pub mod Bound

@@ -1,0 +1,11 @@
+// The line that answers a line of the line program (document 01, "The line program"). Crate `lines` goes
+// from line to line.
+//
+// specs/Answers.antt has what is printed for a line.
+mod reply;
+mod write;
+
+pub use reply::answer;
+
+// The most bytes that an answer has more than the reference and the line together.
+pub const BEYOND: usize = 57;

@@ -1,0 +1,100 @@
+// The line that answers a line.
+use super::write::put_line;
+use super::write::write_head;
+use super::write::write_refused;
+use forming::Located;
+use forming::locate_clean;
+use normal::Stretches;
+use normal::joined_length;
+use saying::Line;
+use saying::read_line;
+use stretch::put;
+ghost use mathlib.Core.List.{_++_, _∷_, []};
+ghost use Prim.Native.Nat.{_≤_};
+ghost use lib.ListN.{length};
+ghost use Rattle.stretch.specs.Over.{Wrote};
+ghost use Rattle.normal.specs.Stretches.{Fits, formIn};
+ghost use Rattle.saying.specs.Said.{lineFeed};
+ghost use Rattle.answers.specs.Answers.{formReply, alleleReply, answerLine, Room};
+ghost use Rattle.answers.specs.Parts.{head, stop};
+
+// The front of a form whose replacement has so many letters.
+fn form_head(out: &mut [u8], w: Stretches, letters: usize) -> usize
+    requires { ⌜ 56 ≤ length (now out) ⌝ }
+    ensures { λ r. ⌜ Wrote (now (out .entry)) 0 (head (w .start) (w .end) (w .kind) (stop letters)) (now (out .exit)) r ⌝ }
+    ensures { λ r. ⌜ r ≤ 56 ⌝ }
+{
+    let kind = w.kind;
+    if letters == 0 {
+        return write_head(out, w.start as u64, w.end as u64, kind, b" .");
+    }
+    write_head(out, w.start as u64, w.end as u64, kind, b" ")
+}
+
+fn answer_form(
+    reference: &[u8],
+    start: usize,
+    end: usize,
+    replacement: &[u8],
+    w: Stretches,
+    out: &mut [u8],
+) -> usize
+    requires { ⌜ Fits (now reference) start end (now replacement) w ⌝ }
+    requires { ⌜ Room (now reference) (now replacement) (now out) ⌝ }
+    ensures { λ r. ⌜ Wrote (now (out .entry)) 0 (formReply (formIn (now (reference .entry)) start end (now (replacement .entry)) w) ++ (lineFeed ∷ [])) (now (out .exit)) r ⌝ }
+{
+    let left = w.left;
+    let from = w.from;
+    let to = w.to;
+    let right = w.right;
+    let at = form_head(out, w, joined_length(start, end, w));
+    put_line(
+        out,
+        at,
+        &reference[left..start],
+        &replacement[from..to],
+        &reference[end..right],
+    )
+}
+
+fn answer_allele(
+    reference: &[u8],
+    start: u64,
+    end: u64,
+    replacement: &[u8],
+    out: &mut [u8],
+) -> usize
+    requires { ⌜ Room (now reference) (now replacement) (now out) ⌝ }
+    ensures { λ r. ⌜ Wrote (now (out .entry)) 0 (alleleReply (now (reference .entry)) start end (now (replacement .entry)) ++ (lineFeed ∷ [])) (now (out .exit)) r ⌝ }
+{
+    let found = locate_clean(reference, start, end, replacement);
+    match found {
+        Located::Accepted(w) => answer_form(
+            reference,
+            start as usize,
+            end as usize,
+            replacement,
+            w,
+            out,
+        ),
+        Located::Refused(why) => write_refused(out, why.number),
+    }
+}
+
+// Writes the line that answers `line` at the front of `out`, its line feed too, and answers how long it is.
+pub fn answer(reference: &[u8], line: &[u8], out: &mut [u8]) -> usize
+    requires { ⌜ Room (now reference) (now line) (now out) ⌝ }
+    ensures { λ r. ⌜ Wrote (now (out .entry)) 0 (answerLine (now (reference .entry)) (now (line .entry))) (now (out .exit)) r ⌝ }
+{
+    let says = read_line(line);
+    match says {
+        Line::Allele { start, end, from } => answer_allele(
+            reference,
+            start,
+            end,
+            &line[from..],
+            out,
+        ),
+        Line::Unread => put(out, 0, b"unread\n"),
+    }
+}
