@@ -29,7 +29,8 @@ pub part-short : (l : List ℕ) (from to : ℕ) → from ≤ to → length (part
 part-short l from to h = simp length-take (omega arith)
 
 -- behind a front of at most 56 bytes there is room for the stretches and a line feed
-pub room-form : (r : List ℕ) (start end : ℕ) (x : List ℕ) (w : Stretches) (out left : List ℕ) {at : ℕ} → Fits r start end x w → Room r x out → at ≤ 56 → length left ≡ length out
+pub room-form : (r : List ℕ) (start end : ℕ) (x : List ℕ) (w : Stretches) (out left : List ℕ) {at : ℕ}
+    → Fits r start end x w → Room r x out → at ≤ 56 → length left ≡ length out
     → at + (length (part r (w .left) start) + (length (part x (w .from) (w .to)) + length (part r end (w .right)))) < length left
 room-form r start end x w out left f h l e =
     omega (

@@ -70,7 +70,8 @@ module _ (input : List ℕ) where
       }
 
   -- the reference and the line lie apart in the input
-  pub ready-room : (from : Step) (out : List ℕ) (end : ℕ) → end ≡ nextOf lineFeed input (from .next) → Ready input from out → Room (referenceOf input from) (part input (from .next) end) out
+  pub ready-room : (from : Step) (out : List ℕ) (end : ℕ) → end ≡ nextOf lineFeed input (from .next) → Ready input from out
+      → Room (referenceOf input from) (part input (from .next) end) out
   ready-room from out end e r =
       omega (
         arith,
@@ -82,11 +83,13 @@ module _ (input : List ℕ) where
       )
 
   pub steps : (from to : Step) (out left : List ℕ) (end : ℕ) → from .next < length input → end ≡ nextOf lineFeed input (from .next)
-      → to .reference ≡ from .reference → to .next ≡ end + 1 → Wrote out 0 (answerLine (referenceOf input from) (part input (from .next) end)) left (to .written) → Steps input from out to left
+      → to .reference ≡ from .reference → to .next ≡ end + 1
+      → Wrote out 0 (answerLine (referenceOf input from) (part input (from .next) end)) left (to .written) → Steps input from out to left
   steps from to out left end h f e n w =
       let line : Wrote out 0 (answerLine (referenceOf input from) (lineAt input from)) left (to .written) = rw f at w in
       let next : to .next ≡ nextOf lineFeed input (from .next) + 1 = rw (← f) n in
-      let front : take (to .written) left ≡ answerLine (referenceOf input from) (lineAt input from) = rw (sub-zero (to .written)) at (wrote-front _ _ left (to .written) line) in
+      let front : take (to .written) left ≡ answerLine (referenceOf input from) (lineAt input from)
+      = rw (sub-zero (to .written)) at (wrote-front _ _ left (to .written) line) in
       record {
         reference = e;
         next = next;
@@ -103,6 +106,7 @@ module _ (input : List ℕ) where
   pieces-output s ps b p = pieces-rest p ∙ sym (b .whole)
 
 -- all that the program prints: it steps through the input up to its limit
-pub pieces-printed : (input : List ℕ) (s : Step) (ps : List (List ℕ)) → Starts (take inputLimit input) s → Pieces (take inputLimit input) s ps → inARow ps ≡ printed input
+pub pieces-printed : (input : List ℕ) (s : Step) (ps : List (List ℕ)) → Starts (take inputLimit input) s → Pieces (take inputLimit input) s ps
+    → inARow ps ≡ printed input
 unfolding printed
 pieces-printed input s ps b p = pieces-output (take inputLimit input) s ps b p

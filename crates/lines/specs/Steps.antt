@@ -27,8 +27,8 @@ abbrev pub Read : List ℕ → Type 0
 Read input = length input ≤ inputLimit
 
 -- and a buffer that has room for each of its answers
-abbrev pub Fits : List ℕ → List ℕ → Type 0
-Fits input out = (Read input) × (length input + beyond ≤ length out)
+abbrev pub Enough : List ℕ → List ℕ → Type 0
+Enough input out = (Read input) × (length input + beyond ≤ length out)
 
 -- the first step goes behind the first line, and all that is printed is still to be printed
 pub record Starts (input : List ℕ) (to : Step) : Type 0 where
@@ -53,7 +53,8 @@ pub record Steps (input : List ℕ) (from : Step) (out : List ℕ) (to : Step) (
 -- what steps write, one after another, until nothing of the input is left
 pub data Pieces (input : List ℕ) : Step → List (List ℕ) → Type 0 where
   none : (s : Step) → length input ≤ s .next → Pieces input s []
-  one : (s t : Step) (out left : List ℕ) (ps : List (List ℕ)) → Steps input s out t left → Pieces input t ps → Pieces input s (take (t .written) left ∷ ps)
+  one : (s t : Step) (out left : List ℕ) (ps : List (List ℕ)) → Steps input s out t left → Pieces input t ps
+      → Pieces input s (take (t .written) left ∷ ps)
 
 -- pieces put one behind another
 abbrev pub inARow : List (List ℕ) → List ℕ

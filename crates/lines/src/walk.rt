@@ -9,10 +9,10 @@ pub fn first_step(input: &[u8]) -> Step
     requires { ⌜ Read (now input) ⌝ }
     ensures { λ r. ⌜ Starts (now (input .entry)) r ⌝ }
 {
-    let end = line_end(input, 0);
+    let reference = line_end(input, 0);
     Step {
-        reference: end,
-        next: end + 1,
+        reference,
+        next: reference + 1,
         written: 0,
     }
 }

@@ -6,11 +6,11 @@ use lines::INPUT_LIMIT;
 use lines::ROOM;
 use lines::first_step;
 use lines::next_step;
-ghost use Rattle.lines.specs.Steps.{Fits};
+ghost use Rattle.lines.specs.Steps.{Enough};
 
 // Prints what each step writes, while some of the input is left.
 fn print_answers(input: &[u8], out: &mut [u8])
-    requires { ⌜ Fits (now input) (now out) ⌝ }
+    requires { ⌜ Enough (now input) (now out) ⌝ }
 {
     let mut step = first_step(input);
     while step.next < input.len() {
