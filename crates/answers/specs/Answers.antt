@@ -43,7 +43,8 @@ saidText r (allele start end x) = alleleReply r start end x
 unfoldable pub answerLine : List ℕ → List ℕ → List ℕ
 answerLine r line = saidText r (said line) ++ (lineFeed ∷ [])
 
--- the most bytes that an answer has more than the reference and the line together
+-- the most bytes that an answer has more than the reference and the line together: two numbers of 20 digits, a kind of 12 letters,
+-- three spaces, a full stop and a line feed
 abbrev pub beyond : ℕ
 beyond = 57
 

@@ -1,4 +1,5 @@
 -- By what the normaliser answers.
+use native.Mathlib.Omega.{arith}
 use mathlib.Core.Path.{_∙_, sym}
 use borrow.Author.Needs.{needs}
 use Rattle.forming.proofs.Answers.{clean-fits}
@@ -23,7 +24,7 @@ enum-known-found-2 : tie.Need-enum-known-found-2
 enum-known-found-2 c = search needs
 
 write-refused-requires : tie.Need-write-refused-requires
-write-refused-requires c κs = search needs
+write-refused-requires c κs = omega (arith, c .before .before .before .before .before .before .before .before .pre)
 
 same-length : tie.Need-same-length
 same-length c = search needs

@@ -14,7 +14,7 @@ joined-length-requires : tie.Need-joined-length-requires
 joined-length-requires c κs = search needs
 
 form-head-requires : tie.Need-form-head-requires
-form-head-requires c κs = search needs
+form-head-requires c κs = omega (arith, c .before .before .before .before .before .pre .1)
 
 sub-put-line : tie.Need-sub-put-line
 sub-put-line c = search needs
