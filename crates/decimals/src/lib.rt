@@ -1,4 +1,4 @@
-// Decimals, written and read. Crates `text`, `words`, `saying` and `lines` stand on them.
+// Decimals, written and read. Crates `text`, `words`, `saying` and `answers` stand on them.
 //
 // specs/Decimal.antt has the decimal of a number, and specs/Number.antt the number of a text.
 mod decimal;

@@ -1,5 +1,5 @@
 // How the line program's input is read (document 01, "The line program"): where a line ends, and what it
-// says. Crate `lines` answers it.
+// says. Crate `answers` has the line that answers it.
 //
 // specs/Cut.antt has a text's pieces, and specs/Said.antt what a line says.
 mod read;
