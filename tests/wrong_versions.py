@@ -116,7 +116,7 @@ def page(by_sentence, sentences, by_call, calls):
     for sentence in sentences:
         if by_sentence[sentence]:
             yield item(f"**{sentence}**: " + ", ".join(one.name for one in by_sentence[sentence]))
-    yield "\nNone of these is tried by one: each is a law about definitions, or ruled out by a type.\n"
+    yield "\nThese have none: each is a definition, a law or a computed example, or a type rules the mistake out.\n"
     for sentence in sentences:
         if not by_sentence[sentence]:
             yield item(sentence)
