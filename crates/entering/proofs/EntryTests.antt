@@ -23,11 +23,12 @@ use Rattle.forming.proofs.Answers.{told-accepted, told-refused, clean-accepted,
 use Rattle.image.specs.Formed.{wellFormed}
 use Rattle.records.specs.Does.{Does}
 use Rattle.records.proofs.Does.{does-refused, does-as}
-use Rattle.entering.specs.declared.Entered.{Entered}
-use Rattle.entering.specs.declared.Entered.the-variants.{Refused as Unentered}
-use Rattle.entering.specs.Found.{found, entered}
-use Rattle.entering.specs.Inner.{unchanged, imageAnswer, changeAnswer, EntersAs, EntersAllele}
-use Rattle.entering.specs.Calls.{imageGrounds, changeGrounds, roomGrounds, EntersForm, entryGrounds, Enters}
+use Rattle.numbering.specs.declared.Entered.{Entered}
+use Rattle.numbering.specs.declared.Entered.the-variants.{Refused as Unentered}
+use Rattle.numbering.specs.Found.{found, entered}
+use Rattle.numbering.specs.Calls.{roomGrounds, EntersForm}
+use Rattle.entering.specs.Inner.{unchanged, imageAnswer, changeAnswer, EntersAllele}
+use Rattle.entering.specs.Calls.{imageGrounds, changeGrounds, entryGrounds, Enters}
 
 -- 12 behind 1 to 5
 module _ (r : List ℕ) (start end : ℕ) (x : List ℕ) where
@@ -100,9 +101,3 @@ module _ (r : List ℕ) (start end : ℕ) (x : List ℕ) where
 pub image-formed : (b digest r : List ℕ) → Accepted ≡ imageAnswer b digest r → wellFormed b ≡ true
 unfolding imageGrounds
 image-formed b digest r e = not-false (wellFormed b) (none-holds (imageGrounds b digest r) (outcome-accepted _ e) 0)
-
--- a form found so
-pub enters-as : (b : List ℕ) (f : Normal) (said answer : Entered) (left : List ℕ) → found b f ≡ said → EntersAs b f said answer left
-    → EntersForm b f answer left
-unfolding EntersForm
-enters-as b f said answer left e p = rw e p

@@ -1,3 +1,2 @@
 pub mod EntryTests
-pub mod Finding
 pub mod Promises

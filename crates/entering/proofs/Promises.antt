@@ -3,7 +3,7 @@ use Prim.Native.Nat.{ℕ}
 use mathlib.Core.Path.{_≡_}
 use mathlib.Core.List.{List}
 use Rattle.records.proofs.Does.{does-once}
-use Rattle.entering.specs.declared.Entered.{Entered}
+use Rattle.numbering.specs.declared.Entered.{Entered}
 use Rattle.entering.specs.Calls.{Enters}
 
 pub enters-once : (b l₁ l₂ : List ℕ) (a₁ a₂ : Entered) (digest r : List ℕ) (start end : ℕ) (x : List ℕ)

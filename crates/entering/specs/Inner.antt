@@ -7,15 +7,16 @@ use Rattle.refusal.specs.declared.Outcome.{Outcome}
 use Rattle.refusal.specs.declared.Outcome.the-variants.{Accepted, Refused}
 use Rattle.normal.specs.declared.Kind.{Kind}
 use Rattle.normal.specs.declared.Kind.the-variants.{Unchanged, Substitution, Indel}
-use Rattle.normal.specs.Form.{Normal, normal}
+use Rattle.normal.specs.Form.{normal}
 use Rattle.normal.specs.Stretches.{stretchesOf}
 use Rattle.forming.specs.declared.Located.{Located}
 use Rattle.forming.specs.declared.Located.the-variants.{Accepted as Found, Refused as Unfound}
 use Rattle.records.specs.Does.{Does}
-use Rattle.entering.specs.declared.Entered.{Entered}
-use Rattle.entering.specs.declared.Entered.the-variants.{Refused as Unentered}
-use Rattle.entering.specs.Found.{found, entered}
-use Rattle.entering.specs.Calls.{imageGrounds, changeGrounds, roomGrounds}
+use Rattle.numbering.specs.declared.Entered.{Entered}
+use Rattle.numbering.specs.declared.Entered.the-variants.{Refused as Unentered}
+use Rattle.numbering.specs.Found.{found, entered}
+use Rattle.numbering.specs.Calls.{roomGrounds}
+use Rattle.entering.specs.Calls.{imageGrounds, changeGrounds}
 
 -- the kind that 12 is about
 abbrev pub unchanged : Kind → Bool
@@ -30,10 +31,7 @@ imageAnswer b digest r = tell Refused (verdict (imageGrounds b digest r)) Accept
 abbrev pub changeAnswer : List ℕ → ℕ → ℕ → List ℕ → Located
 changeAnswer r start end x = tell Unfound (verdict (changeGrounds r start end x)) (Found (stretchesOf r start end x))
 
--- the entry of a form that was found so, and of an allele, on an image that has passed
-abbrev pub EntersAs : List ℕ → Normal → Entered → Entered → List ℕ → Type 0
-EntersAs b f said = Does Unentered (verdict (roomGrounds b f said)) said b (entered b f said)
-
+-- the entry of an allele, on an image that has passed
 unfoldable pub EntersAllele : List ℕ → List ℕ → ℕ → ℕ → List ℕ → Entered → List ℕ → Type 0
 EntersAllele b r start end x =
     let f = normal r start end x in

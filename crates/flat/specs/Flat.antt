@@ -13,8 +13,8 @@ use Rattle.reading.specs.declared.LocationRead.{LocationRead}
 use Rattle.reading.specs.declared.LocationRead.the-variants.{Accepted as Located, Refused as Unlocated}
 use Rattle.reading.specs.declared.AlleleRead.{AlleleRead}
 use Rattle.reading.specs.declared.AlleleRead.the-variants.{Accepted as Alleled, Refused as Unalleled}
-use Rattle.entering.specs.declared.Entered.{Entered}
-use Rattle.entering.specs.declared.Entered.the-variants.{New, Again, Known, Refused as Unentered}
+use Rattle.numbering.specs.declared.Entered.{Entered}
+use Rattle.numbering.specs.declared.Entered.the-variants.{New, Again, Known, Refused as Unentered}
 use Rattle.register.specs.declared.Undone.{Undone}
 use Rattle.register.specs.declared.Undone.the-variants.{Number, Refused as NotUndone}
 use Rattle.flat.specs.declared.FvAllele.{FvAllele}

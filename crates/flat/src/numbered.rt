@@ -2,7 +2,7 @@
 use super::FvEntered;
 use super::FvOutcome;
 use super::FvUndone;
-use entering::Entered;
+use numbering::Entered;
 use refusal::Outcome;
 use register::Undone;
 ghost use mathlib.Core.Path.{_≡_};

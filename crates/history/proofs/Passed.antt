@@ -15,9 +15,10 @@ use Rattle.normal.specs.Form.{altered, normal}
 use Rattle.forming.specs.Calls.{formGrounds}
 use Rattle.image.specs.Fields.{issued, journalCapacity, journalCount, referenceLength, statusOf, active}
 use Rattle.image.specs.Formed.{wellFormed}
-use Rattle.entering.specs.Found.{found}
+use Rattle.numbering.specs.Found.{found}
 use Rattle.records.specs.Does.{Does, notFormed}
-use Rattle.entering.specs.Calls.{imageGrounds, changeGrounds, roomGrounds, entryGrounds}
+use Rattle.numbering.specs.Calls.{roomGrounds}
+use Rattle.entering.specs.Calls.{imageGrounds, changeGrounds, entryGrounds}
 use Rattle.register.specs.Calls.{withdrawalGrounds, undoGrounds}
 
 -- accepted, with what it says; or refused, with the image as it was

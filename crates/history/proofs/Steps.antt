@@ -20,14 +20,15 @@ use Rattle.image.specs.Fields.{issued, recordCapacity, journalCount, journalCap
 use Rattle.image.specs.Formed.{wellFormed}
 use Rattle.image.proofs.WellFormed.{FormedEntry, formed}
 use Rattle.image.proofs.Lengths.{formed-inside}
-use Rattle.entering.specs.declared.Entered.{Entered}
-use Rattle.entering.specs.declared.Entered.the-variants.{New, Again, Refused as Unentered}
+use Rattle.numbering.specs.declared.Entered.{Entered}
+use Rattle.numbering.specs.declared.Entered.the-variants.{New, Again, Refused as Unentered}
 use Rattle.register.specs.declared.Undone.the-variants.{Number, Refused as NotUndone}
-use Rattle.entering.specs.Found.{found}
+use Rattle.numbering.specs.Found.{found}
 use Rattle.records.specs.Changes.{withdrawn, reentered, numbered, undone, latest, sealed}
-use Rattle.entering.specs.Found.{entered}
+use Rattle.numbering.specs.Found.{entered}
 use Rattle.records.specs.Does.{notFormed}
-use Rattle.entering.specs.Calls.{Enters, entryGrounds, roomGrounds}
+use Rattle.numbering.specs.Calls.{roomGrounds}
+use Rattle.entering.specs.Calls.{Enters, entryGrounds}
 use Rattle.register.specs.Calls.{Withdraws, Undoes, Seals, withdrawalGrounds, undoGrounds}
 use Rattle.history.specs.Events.{Event, entry, withdrawal, undo, seal, refusal, new, again, known}
 use Rattle.history.specs.Runs.{Call, enters, withdraws, undoes, seals, entryEvent, undoEvent, outcomeEvent}

@@ -7,8 +7,8 @@ use lib.ListN.{replicate}
 use Rattle.stretch.specs.Ascii.{ascii}
 use Rattle.refusal.specs.declared.Outcome.the-variants.{Accepted}
 use Rattle.normal.specs.Form.{altered, normal}
-use Rattle.entering.specs.declared.Entered.{Entered}
-use Rattle.entering.specs.declared.Entered.the-variants.{New, Again, Known, Refused}
+use Rattle.numbering.specs.declared.Entered.{Entered}
+use Rattle.numbering.specs.declared.Entered.the-variants.{New, Again, Known, Refused}
 use Rattle.register.specs.declared.Undone.the-variants.{Number}
 use Rattle.records.specs.Changes.{blanked, numbered, reentered, withdrawn, undone, sealed}
 use Rattle.entering.specs.Calls.{Enters}

@@ -1,5 +1,5 @@
 // The records of a well-formed image: how a normal form is found among them, and what changes write.
-// The calls of `entering` and `register` are made of these.
+// The calls of `entering` (by `numbering`) and `register` are made of these.
 //
 // specs/Lookup.antt has how a form is found, specs/Changes.antt what each change leaves of the image,
 // and specs/Does.antt what a call on an image promises.

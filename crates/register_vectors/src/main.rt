@@ -1,6 +1,6 @@
 // Prints document 01's register example: each call and its answer on a line, then the buffer. They have
 // to be those of the file stdout, which a second program makes, tests/second/register_vectors.py.
-use entering::Entered;
+use numbering::Entered;
 use print::hex;
 use print::labelled;
 use print::refused;

@@ -3,10 +3,9 @@ use native.Mathlib.Omega.{arith}
 use mathlib.Core.Path.{refl}
 use borrow.Author.Needs.{needs}
 use Rattle.records.proofs.Does.{does-accepted}
-use Rattle.entering.proofs.EntryTests.{enters-as}
-use Rattle.entering.proofs.Finding.{found-known, found-again, found-new}
-use Rattle.entering.proofs.allele.enter_form.Statement.{statement}
-use Rattle.entering.proofs.allele.enter_form.Tie as tie
+use Rattle.numbering.proofs.Finding.{found-known, found-again, found-new, enters-as}
+use Rattle.numbering.proofs.form.enter_form.Statement.{statement}
+use Rattle.numbering.proofs.form.enter_form.Tie as tie
 
 lowest-holding-requires : tie.Need-lowest-holding-requires
 lowest-holding-requires c κs = search needs

@@ -6,9 +6,11 @@ use mathlib.Core.List.{List}
 use borrow.Author.Tests.{ne-eqb}
 use Rattle.normal.specs.Form.{Normal}
 use Rattle.image.specs.Fields.{issued, active, inactive}
-use Rattle.entering.specs.declared.Entered.the-variants.{New, Again, Known}
+use Rattle.numbering.specs.declared.Entered.{Entered}
+use Rattle.numbering.specs.declared.Entered.the-variants.{New, Again, Known}
 use Rattle.records.specs.Lookup.{lowestHolding}
-use Rattle.entering.specs.Found.{found}
+use Rattle.numbering.specs.Found.{found}
+use Rattle.numbering.specs.Calls.{EntersAs, EntersForm}
 
 module _ (b : List ℕ) (f : Normal) where
   pub found-known : (k : ℕ) → k ≡ lowestHolding b active f → 1 ≤ k → found b f ≡ Known k
@@ -23,3 +25,9 @@ module _ (b : List ℕ) (f : Normal) where
     pub found-new : lowestHolding b inactive f ≡ 0 → found b f ≡ New (issued b + 1)
     unfolding found
     found-new e = rw (none, e)
+
+-- a form found so
+pub enters-as : (b : List ℕ) (f : Normal) (said answer : Entered) (left : List ℕ) → found b f ≡ said → EntersAs b f said answer left
+    → EntersForm b f answer left
+unfolding EntersForm
+enters-as b f said answer left e p = rw e p

@@ -4,8 +4,8 @@ use borrow.Author.Tests.{le-leb, lt-leb}
 use borrow.Author.Needs.{needs}
 use Rattle.records.specs.Changes.{reentered}
 use Rattle.records.proofs.Does.{does-refused, does-accepted}
-use Rattle.entering.proofs.allele.reenter.Statement.{statement}
-use Rattle.entering.proofs.allele.reenter.Tie as tie
+use Rattle.numbering.proofs.form.reenter.Statement.{statement}
+use Rattle.numbering.proofs.form.reenter.Tie as tie
 
 read-number-requires : tie.Need-read-number-requires
 read-number-requires c κs = search needs

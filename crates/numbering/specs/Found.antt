@@ -7,8 +7,8 @@ use Rattle.normal.specs.Form.{Normal}
 use Rattle.image.specs.Fields.{issued, active, inactive}
 use Rattle.records.specs.Lookup.{lowestHolding}
 use Rattle.records.specs.Changes.{numbered, reentered}
-use Rattle.entering.specs.declared.Entered.{Entered}
-use Rattle.entering.specs.declared.Entered.the-variants.{New, Again, Known, Refused}
+use Rattle.numbering.specs.declared.Entered.{Entered}
+use Rattle.numbering.specs.declared.Entered.the-variants.{New, Again, Known, Refused}
 
 -- the lowest active number, else the lowest inactive, else the next
 unfoldable pub found : List ℕ → Normal → Entered

@@ -5,10 +5,10 @@ use mathlib.Core.Path.{_∙_, sym, ap}
 use borrow.Author.Tests.{ltb-false, le-leb, lt-leb}
 use borrow.Author.Needs.{needs}
 use Rattle.stretch.proofs.Join.{length-three}
-use Rattle.entering.specs.declared.Entered.the-variants.{New}
+use Rattle.numbering.specs.declared.Entered.the-variants.{New}
 use Rattle.records.proofs.Does.{does-refused, does-accepted}
-use Rattle.entering.proofs.allele.enter_new.Statement.{statement}
-use Rattle.entering.proofs.allele.enter_new.Tie as tie
+use Rattle.numbering.proofs.form.enter_new.Statement.{statement}
+use Rattle.numbering.proofs.form.enter_new.Tie as tie
 
 read-number-requires : tie.Need-read-number-requires
 read-number-requires c κs = search needs
