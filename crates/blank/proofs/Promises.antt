@@ -3,7 +3,7 @@ use Prim.Native.Nat.{ℕ}
 use mathlib.Core.Path.{_≡_}
 use mathlib.Core.List.{List}
 use Rattle.refusal.specs.declared.Outcome.{Outcome}
-use Rattle.records.proofs.Does.{does-once}
+use Rattle.changes.proofs.Does.{does-once}
 use Rattle.blank.specs.Calls.{Blanks}
 
 pub blanks-once : (b l₁ l₂ : List ℕ) (a₁ a₂ : Outcome) (n : ℕ) (digest : List ℕ) (records journal pool : ℕ)

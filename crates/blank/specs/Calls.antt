@@ -9,8 +9,8 @@ use Rattle.refusal.specs.declared.Outcome.{Outcome}
 use Rattle.refusal.specs.declared.Outcome.the-variants.{Accepted, Refused}
 use Rattle.letters.specs.Letters.{digestTextGrounds}
 use Rattle.image.specs.Fields.{countLimit, poolLimit, imageSize}
-use Rattle.records.specs.Changes.{blanked}
-use Rattle.records.specs.Does.{Does}
+use Rattle.changes.specs.Changes.{blanked}
+use Rattle.changes.specs.Does.{Does}
 
 -- the capacities, and then the room: 9
 abbrev pub capacityGrounds : ℕ → ℕ → ℕ → ℕ → List Ground

@@ -1,4 +1,5 @@
 // A blank image: its header, with no number issued.
+use changes::put_four;
 use image::COUNT_LIMIT;
 use image::DIGEST;
 use image::ENTRY_SIZE;
@@ -12,7 +13,6 @@ use image::RECORD_SIZE;
 use image::REFERENCE_LENGTH;
 use image::put_number;
 use letters::check_digest_text;
-use records::put_four;
 use refusal::NO_ROOM_FOR_IMAGE;
 use refusal::OVER_LIMIT;
 use refusal::Outcome;
@@ -23,7 +23,7 @@ ghost use mathlib.Core.Path.{_≡_};
 ghost use Prim.Native.Nat.{_≤_};
 ghost use lib.ListN.{length};
 ghost use Rattle.image.specs.Fields.{headerSize, countLimit};
-ghost use Rattle.records.specs.Changes.{blanked};
+ghost use Rattle.changes.specs.Changes.{blanked};
 ghost use Rattle.blank.specs.Calls.{Blanks};
 ghost use Rattle.blank.specs.Inner.{capacityAnswer, blankAnswer};
 

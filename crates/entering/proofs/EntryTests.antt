@@ -21,8 +21,8 @@ use Rattle.forming.specs.declared.Located.the-variants.{Accepted as Found, Refu
 use Rattle.forming.specs.Calls.{formGrounds, locatedClean}
 use Rattle.forming.proofs.Answers.{told-accepted, told-refused, clean-accepted, clean-refused, clean-allele}
 use Rattle.image.specs.Formed.{wellFormed}
-use Rattle.records.specs.Does.{Does}
-use Rattle.records.proofs.Does.{does-refused, does-as}
+use Rattle.changes.specs.Does.{Does}
+use Rattle.changes.proofs.Does.{does-refused, does-as}
 use Rattle.numbering.specs.declared.Entered.{Entered}
 use Rattle.numbering.specs.declared.Entered.the-variants.{Refused as Unentered}
 use Rattle.numbering.specs.Found.{found, entered}

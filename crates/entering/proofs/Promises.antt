@@ -2,7 +2,7 @@
 use Prim.Native.Nat.{ℕ}
 use mathlib.Core.Path.{_≡_}
 use mathlib.Core.List.{List}
-use Rattle.records.proofs.Does.{does-once}
+use Rattle.changes.proofs.Does.{does-once}
 use Rattle.numbering.specs.declared.Entered.{Entered}
 use Rattle.entering.specs.Calls.{Enters}
 

@@ -9,7 +9,7 @@ use Rattle.refusal.specs.Verdict.{Ground, ground, verdict}
 use Rattle.normal.specs.Form.{altered, normal}
 use Rattle.forming.specs.Calls.{formGrounds}
 use Rattle.image.specs.Fields.{referenceLength, sequenceDigest}
-use Rattle.records.specs.Does.{Does, notFormed}
+use Rattle.changes.specs.Does.{Does, notFormed}
 use Rattle.numbering.specs.declared.Entered.{Entered}
 use Rattle.numbering.specs.declared.Entered.the-variants.{Refused}
 use Rattle.numbering.specs.Found.{found, entered}

@@ -11,7 +11,7 @@ use Rattle.normal.specs.Form.{normal}
 use Rattle.normal.specs.Stretches.{stretchesOf}
 use Rattle.forming.specs.declared.Located.{Located}
 use Rattle.forming.specs.declared.Located.the-variants.{Accepted as Found, Refused as Unfound}
-use Rattle.records.specs.Does.{Does}
+use Rattle.changes.specs.Does.{Does}
 use Rattle.numbering.specs.declared.Entered.{Entered}
 use Rattle.numbering.specs.declared.Entered.the-variants.{Refused as Unentered}
 use Rattle.numbering.specs.Found.{found, entered}

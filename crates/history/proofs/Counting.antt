@@ -10,7 +10,7 @@ use Rattle.image.specs.Fields.{headerSize, issued, issuedPlace, poolCapacity, p
 use Rattle.image.specs.Header.{Header}
 use Rattle.image.proofs.Numbers.{number-put}
 use Rattle.image.proofs.Spared.{Spared, spared-put, spared-on, number-aside}
-use Rattle.records.specs.Changes.{counted}
+use Rattle.changes.specs.Changes.{counted}
 use Rattle.history.proofs.Spares.{Spares, spares-put, spares-on}
 use Rattle.history.proofs.Clear.{clear-issued, clear-used}
 

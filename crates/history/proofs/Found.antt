@@ -10,10 +10,10 @@ use Rattle.stretch.proofs.Cases.{by-cases}
 use Rattle.normal.specs.Form.{Normal}
 use Rattle.image.specs.Fields.{issued, statusOf, active, inactive}
 use Rattle.numbering.specs.declared.Entered.the-variants.{New, Again, Known}
-use Rattle.records.specs.Lookup.{holds, lowestHolding}
+use Rattle.lookup.specs.Lookup.{holds, lowestHolding}
 use Rattle.numbering.specs.Found.{found}
 use Rattle.history.specs.Demand.{Live}
-use Rattle.records.proofs.Lowest.{lowest-passes, lowest-none}
+use Rattle.lookup.proofs.Lowest.{lowest-passes, lowest-none}
 use Rattle.history.proofs.Proper.{Has, holds-told, holds-met}
 
 -- number i of this status has the form

@@ -10,7 +10,7 @@ use Rattle.image.specs.Fields.{journalCapacity, journalCount, journalCountPlace
 use Rattle.image.specs.Header.{Header}
 use Rattle.image.proofs.Numbers.{number-put}
 use Rattle.image.proofs.Spared.{Spared, Aside, spared-put, spared-on, spared-number, number-aside}
-use Rattle.records.specs.Changes.{journalled}
+use Rattle.changes.specs.Changes.{journalled}
 use Rattle.history.proofs.Spares.{Spares, spares-put, spares-on}
 use Rattle.history.proofs.Clear.{clear-count, clear-entry}
 

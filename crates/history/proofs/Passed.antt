@@ -16,7 +16,7 @@ use Rattle.forming.specs.Calls.{formGrounds}
 use Rattle.image.specs.Fields.{issued, journalCapacity, journalCount, referenceLength, statusOf, active}
 use Rattle.image.specs.Formed.{wellFormed}
 use Rattle.numbering.specs.Found.{found}
-use Rattle.records.specs.Does.{Does, notFormed}
+use Rattle.changes.specs.Does.{Does, notFormed}
 use Rattle.numbering.specs.Calls.{roomGrounds}
 use Rattle.entering.specs.Calls.{imageGrounds, changeGrounds, entryGrounds}
 use Rattle.register.specs.Calls.{withdrawalGrounds, undoGrounds}

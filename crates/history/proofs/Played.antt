@@ -13,9 +13,9 @@ use Rattle.image.specs.Fields.{headerOf, recordAt, recordOf, replacementOf}
 use Rattle.image.specs.Formed.{laidOut, countsWithin, withinLimits, lengths, recordGood, entryGood, wellFormed}
 use Rattle.numbering.specs.declared.Entered.the-variants.{New, Again, Known}
 use Rattle.register.specs.declared.Undone.the-variants.{Number}
-use Rattle.records.specs.Lookup.{holds, lowest, lowestHolding}
+use Rattle.lookup.specs.Lookup.{holds, lowest, lowestHolding}
 use Rattle.numbering.specs.Found.{found}
-use Rattle.records.specs.Changes.{blanked, journalled, marked, withdrawn, reentered, recorded, pooled, counted, numbered, latest, undone, sealed}
+use Rattle.changes.specs.Changes.{blanked, journalled, marked, withdrawn, reentered, recorded, pooled, counted, numbered, latest, undone, sealed}
 use Rattle.entering.specs.Calls.{imageGrounds, changeGrounds, entryGrounds, Enters}
 use Rattle.blank.specs.Calls.{blankGrounds}
 use Rattle.register.specs.Calls.{withdrawalGrounds, Withdraws, undoGrounds, Undoes, Seals}

@@ -10,7 +10,7 @@ use Rattle.normal.specs.Form.{Normal, altered, changedForm, normal}
 use Rattle.normal.proofs.Laws.{yields, normal-changed}
 use Rattle.image.specs.Fields.{startOf, endOf, statusOf, replacementOf}
 use Rattle.image.proofs.Tests.{both, last}
-use Rattle.records.specs.Lookup.{holds}
+use Rattle.lookup.specs.Lookup.{holds}
 use Rattle.history.specs.Demand.{sequenceOf}
 
 -- record i has a form's start, end and replacement

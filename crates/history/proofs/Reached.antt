@@ -9,7 +9,7 @@ use Rattle.refusal.specs.declared.Outcome.the-variants.{Accepted}
 use Rattle.image.specs.Formed.{wellFormed}
 use Rattle.refusal.proofs.Verdict.{outcome-accepted}
 use Rattle.refusal.specs.Verdict.{verdict}
-use Rattle.records.specs.Changes.{blanked}
+use Rattle.changes.specs.Changes.{blanked}
 use Rattle.blank.specs.Calls.{Blanks, blankGrounds}
 use Rattle.blank.proofs.BlankTests.{blankable}
 use Rattle.history.proofs.SeenBlank.{blanked-seen}

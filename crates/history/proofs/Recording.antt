@@ -13,7 +13,7 @@ use Rattle.image.specs.Fields.{recordSize, recordCapacity, issued, poolCapacity
 use Rattle.image.specs.Header.{Header}
 use Rattle.image.proofs.Patched.{length-numbers, number-laid, number-numbers, record-journal}
 use Rattle.image.proofs.Spared.{number-beside}
-use Rattle.records.specs.Changes.{recorded, pooled}
+use Rattle.changes.specs.Changes.{recorded, pooled}
 use Rattle.history.proofs.Spares.{Spares, spares-over, spares-on}
 use Rattle.history.proofs.Clear.{clear-record, clear-letters}
 

@@ -11,7 +11,7 @@ use Rattle.refusal.specs.Limits.{referenceLimit}
 use Rattle.image.specs.Numbers.{number, numbers}
 use Rattle.image.specs.Fields.{headerSize, countLimit, poolLimit, journalPlace, poolPlace, imageSize, sequenceDigest, headerOf}
 use Rattle.image.proofs.Patched.{length-numbers, number-laid, number-first, number-numbers}
-use Rattle.records.specs.Changes.{blanked}
+use Rattle.changes.specs.Changes.{blanked}
 use Rattle.history.proofs.Seen.{Fresh}
 
 -- the numbers of the header

@@ -13,7 +13,7 @@ use Rattle.image.specs.Fields.{headerSize, recordCapacity, issued, issuedPlace,
 use Rattle.image.specs.Header.{Header}
 use Rattle.image.proofs.Patched.{record-header, record-journal}
 use Rattle.image.proofs.Spared.{Spared, Aside, spared-on, spared-number}
-use Rattle.records.specs.Changes.{counted, numbered}
+use Rattle.changes.specs.Changes.{counted, numbered}
 use Rattle.history.proofs.Seen.{Stays, Issues}
 use Rattle.history.proofs.Spares.{Spares, spares-on}
 use Rattle.history.proofs.Read.{Inside, read-stays, read-status, read-entry-at}

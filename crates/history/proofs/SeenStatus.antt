@@ -11,7 +11,7 @@ use Rattle.image.specs.Header.{Header}
 use Rattle.image.proofs.Numbers.{number-put}
 use Rattle.image.proofs.Patched.{record-header}
 use Rattle.image.proofs.Spared.{number-aside}
-use Rattle.records.specs.Changes.{marked, journalled, withdrawn, reentered, latest, undone, sealed}
+use Rattle.changes.specs.Changes.{marked, journalled, withdrawn, reentered, latest, undone, sealed}
 use Rattle.history.proofs.Seen.{Restated, Journalled, TakenBack, Closed}
 use Rattle.history.proofs.Spares.{Spares, spares-put, spares-on}
 use Rattle.history.proofs.Clear.{record-end, clear-count, clear-status}

@@ -24,9 +24,9 @@ use Rattle.numbering.specs.declared.Entered.{Entered}
 use Rattle.numbering.specs.declared.Entered.the-variants.{New, Again, Refused as Unentered}
 use Rattle.register.specs.declared.Undone.the-variants.{Number, Refused as NotUndone}
 use Rattle.numbering.specs.Found.{found}
-use Rattle.records.specs.Changes.{withdrawn, reentered, numbered, undone, latest, sealed}
+use Rattle.changes.specs.Changes.{withdrawn, reentered, numbered, undone, latest, sealed}
 use Rattle.numbering.specs.Found.{entered}
-use Rattle.records.specs.Does.{notFormed}
+use Rattle.changes.specs.Does.{notFormed}
 use Rattle.numbering.specs.Calls.{roomGrounds}
 use Rattle.entering.specs.Calls.{Enters, entryGrounds}
 use Rattle.register.specs.Calls.{Withdraws, Undoes, Seals, withdrawalGrounds, undoGrounds}

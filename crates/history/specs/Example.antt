@@ -10,7 +10,7 @@ use Rattle.normal.specs.Form.{altered, normal}
 use Rattle.numbering.specs.declared.Entered.{Entered}
 use Rattle.numbering.specs.declared.Entered.the-variants.{New, Again, Known, Refused}
 use Rattle.register.specs.declared.Undone.the-variants.{Number}
-use Rattle.records.specs.Changes.{blanked, numbered, reentered, withdrawn, undone, sealed}
+use Rattle.changes.specs.Changes.{blanked, numbered, reentered, withdrawn, undone, sealed}
 use Rattle.entering.specs.Calls.{Enters}
 use Rattle.blank.specs.Calls.{Blanks}
 use Rattle.register.specs.Calls.{Withdraws, Undoes, Seals}

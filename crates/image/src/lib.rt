@@ -1,5 +1,6 @@
 // The bytes of a register image (document 01, "The register image"): where each field stands, its
-// numbers, and the test of well-formedness. Crates `records`, `numbering`, `entering` and `register` stand on it.
+// numbers, and the test of well-formedness. Crates `lookup`, `changes`, `numbering`, `blank`, `entering` and
+// `register` stand on it.
 //
 // specs/Numbers.antt has the numbers, specs/Fields.antt the fields, and specs/Formed.antt when an image
 // is well formed.

@@ -8,7 +8,7 @@ use Rattle.normal.specs.Form.{Normal}
 use Rattle.image.specs.Fields.{issued, active, inactive}
 use Rattle.numbering.specs.declared.Entered.{Entered}
 use Rattle.numbering.specs.declared.Entered.the-variants.{New, Again, Known}
-use Rattle.records.specs.Lookup.{lowestHolding}
+use Rattle.lookup.specs.Lookup.{lowestHolding}
 use Rattle.numbering.specs.Found.{found}
 use Rattle.numbering.specs.Calls.{EntersAs, EntersForm}
 

@@ -6,7 +6,7 @@ use lib.ListN.{length}
 use Rattle.refusal.specs.Verdict.{Ground, ground, verdict}
 use Rattle.normal.specs.Form.{Normal}
 use Rattle.image.specs.Fields.{recordCapacity, issued, poolCapacity, poolUsed}
-use Rattle.records.specs.Does.{Does, journalFull}
+use Rattle.changes.specs.Does.{Does, journalFull}
 use Rattle.numbering.specs.declared.Entered.{Entered}
 use Rattle.numbering.specs.declared.Entered.the-variants.{New, Again, Known, Refused}
 use Rattle.numbering.specs.Found.{found, entered}

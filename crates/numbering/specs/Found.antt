@@ -5,8 +5,8 @@ use mathlib.Core.List.{List}
 use lib.Dec.{eqb}
 use Rattle.normal.specs.Form.{Normal}
 use Rattle.image.specs.Fields.{issued, active, inactive}
-use Rattle.records.specs.Lookup.{lowestHolding}
-use Rattle.records.specs.Changes.{numbered, reentered}
+use Rattle.lookup.specs.Lookup.{lowestHolding}
+use Rattle.changes.specs.Changes.{numbered, reentered}
 use Rattle.numbering.specs.declared.Entered.{Entered}
 use Rattle.numbering.specs.declared.Entered.the-variants.{New, Again, Known, Refused}
 

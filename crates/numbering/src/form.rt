@@ -1,5 +1,7 @@
 // The entry of a normal form.
 use super::Entered;
+use changes::change;
+use changes::number_form;
 use forming::Form;
 use image::ACTIVE;
 use image::INACTIVE;
@@ -10,9 +12,7 @@ use image::POOL_CAPACITY;
 use image::POOL_USED;
 use image::RECORD_CAPACITY;
 use image::read_number;
-use records::change;
-use records::lowest_holding;
-use records::number_form;
+use lookup::lowest_holding;
 use refusal::NO_FREE_RECORD;
 use refusal::NO_JOURNAL_ROOM;
 use refusal::NO_POOL_ROOM;
@@ -27,9 +27,9 @@ ghost use Rattle.refusal.specs.Verdict.{verdict};
 ghost use Rattle.image.specs.Fields.{issued};
 ghost use Rattle.image.specs.Formed.{wellFormed};
 ghost use Rattle.image.specs.Header.{Header};
-ghost use Rattle.records.specs.Lookup.{asked};
-ghost use Rattle.records.specs.Changes.{reentered};
-ghost use Rattle.records.specs.Does.{Does, journalFull};
+ghost use Rattle.lookup.specs.Lookup.{asked};
+ghost use Rattle.changes.specs.Changes.{reentered};
+ghost use Rattle.changes.specs.Does.{Does, journalFull};
 ghost use Rattle.numbering.specs.declared.Entered.the-variants.{New, Again, Refused};
 ghost use Rattle.numbering.specs.Calls.{EntersAs, EntersForm};
 

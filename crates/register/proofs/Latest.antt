@@ -10,7 +10,7 @@ use Rattle.image.specs.Fields.{headerSize, recordSize, entrySize, countLimit, i
 use Rattle.image.specs.Formed.{wellFormed}
 use Rattle.image.specs.Header.{Header}
 use Rattle.image.proofs.WellFormed.{formed}
-use Rattle.records.specs.Changes.{marked, latest, undone}
+use Rattle.changes.specs.Changes.{marked, latest, undone}
 
 -- a record of an issued number lies in the image
 pub issued-room : (b : List ℕ) → Header b → (n : ℕ) → n ≤ issued b → (n ≤ countLimit) × (headerSize + recordSize * n ≤ length b)

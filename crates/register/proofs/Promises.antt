@@ -3,7 +3,7 @@ use Prim.Native.Nat.{ℕ}
 use mathlib.Core.Path.{_≡_}
 use mathlib.Core.List.{List}
 use Rattle.refusal.specs.declared.Outcome.{Outcome}
-use Rattle.records.proofs.Does.{does-once}
+use Rattle.changes.proofs.Does.{does-once}
 use Rattle.register.specs.declared.Undone.{Undone}
 use Rattle.register.specs.Calls.{Withdraws, Undoes, Seals}
 

@@ -7,8 +7,8 @@ use Rattle.refusal.specs.Verdict.{Ground, ground, verdict}
 use Rattle.refusal.specs.declared.Outcome.{Outcome}
 use Rattle.refusal.specs.declared.Outcome.the-variants.{Accepted, Refused}
 use Rattle.image.specs.Fields.{issued, journalCount, statusOf, active}
-use Rattle.records.specs.Changes.{withdrawn, latest, undone, sealed}
-use Rattle.records.specs.Does.{Does, notFormed, journalFull}
+use Rattle.changes.specs.Changes.{withdrawn, latest, undone, sealed}
+use Rattle.changes.specs.Does.{Does, notFormed, journalFull}
 use Rattle.register.specs.declared.Undone.{Undone}
 use Rattle.register.specs.declared.Undone.the-variants.{Number, Refused as NotUndone}
 

@@ -1,5 +1,6 @@
 // Undo of the last change, and the seal behind which none is undone.
 use super::Undone;
+use changes::mark;
 use image::ACTIVE;
 use image::ENTRY_SIZE;
 use image::INACTIVE;
@@ -9,7 +10,6 @@ use image::put_number;
 use image::read_number;
 use image::status_of;
 use image::well_formed;
-use records::mark;
 use refusal::IMAGE_NOT_WELL_FORMED;
 use refusal::NOTHING_TO_UNDO;
 use refusal::Outcome;

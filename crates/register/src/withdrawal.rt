@@ -1,4 +1,5 @@
 // Withdrawal of a number.
+use changes::change;
 use image::ACTIVE;
 use image::INACTIVE;
 use image::ISSUED;
@@ -7,7 +8,6 @@ use image::JOURNAL_COUNT;
 use image::read_number;
 use image::status_of;
 use image::well_formed;
-use records::change;
 use refusal::IMAGE_NOT_WELL_FORMED;
 use refusal::NO_JOURNAL_ROOM;
 use refusal::NO_SUCH_NUMBER;

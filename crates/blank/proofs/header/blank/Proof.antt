@@ -4,7 +4,7 @@ use mathlib.Core.Path.{refl, _∙_, sym}
 use borrow.Author.Needs.{needs}
 use Rattle.refusal.specs.Verdict.{verdict}
 use Rattle.refusal.proofs.Verdict.{outcome-accepted, outcome-refused}
-use Rattle.records.proofs.Does.{does-refused, does-accepted}
+use Rattle.changes.proofs.Does.{does-refused, does-accepted}
 use Rattle.blank.specs.Calls.{blankGrounds}
 use Rattle.blank.proofs.BlankTests.{blankable}
 use Rattle.blank.proofs.header.blank.Statement.{statement}

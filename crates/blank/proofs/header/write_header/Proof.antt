@@ -1,7 +1,7 @@
 -- Numbers in a row, and the digest behind them.
 use mathlib.Core.Path.{refl}
 use borrow.Author.Needs.{needs}
-use Rattle.records.proofs.Rows.{header-laid}
+use Rattle.changes.proofs.Rows.{header-laid}
 use Rattle.blank.proofs.header.write_header.Statement.{statement}
 use Rattle.blank.proofs.header.write_header.Tie as tie
 

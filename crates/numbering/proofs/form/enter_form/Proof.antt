@@ -2,7 +2,7 @@
 use native.Mathlib.Omega.{arith}
 use mathlib.Core.Path.{refl}
 use borrow.Author.Needs.{needs}
-use Rattle.records.proofs.Does.{does-accepted}
+use Rattle.changes.proofs.Does.{does-accepted}
 use Rattle.numbering.proofs.Finding.{found-known, found-again, found-new, enters-as}
 use Rattle.numbering.proofs.form.enter_form.Statement.{statement}
 use Rattle.numbering.proofs.form.enter_form.Tie as tie

@@ -6,7 +6,7 @@ use borrow.Author.Tests.{ltb-false, le-leb, lt-leb}
 use borrow.Author.Needs.{needs}
 use Rattle.stretch.proofs.Join.{length-three}
 use Rattle.numbering.specs.declared.Entered.the-variants.{New}
-use Rattle.records.proofs.Does.{does-refused, does-accepted}
+use Rattle.changes.proofs.Does.{does-refused, does-accepted}
 use Rattle.numbering.proofs.form.enter_new.Statement.{statement}
 use Rattle.numbering.proofs.form.enter_new.Tie as tie
 

@@ -2,8 +2,8 @@
 use mathlib.Core.Path.{refl}
 use borrow.Author.Tests.{le-leb, lt-leb}
 use borrow.Author.Needs.{needs}
-use Rattle.records.specs.Changes.{reentered}
-use Rattle.records.proofs.Does.{does-refused, does-accepted}
+use Rattle.changes.specs.Changes.{reentered}
+use Rattle.changes.proofs.Does.{does-refused, does-accepted}
 use Rattle.numbering.proofs.form.reenter.Statement.{statement}
 use Rattle.numbering.proofs.form.reenter.Tie as tie
 

@@ -4,9 +4,9 @@ use mathlib.Core.Path.{refl, _∙_, sym}
 use borrow.Author.Tests.{not-true, not-false}
 use borrow.Author.Needs.{needs}
 use Rattle.image.proofs.WellFormed.{formed}
-use Rattle.records.specs.Changes.{sealed}
+use Rattle.changes.specs.Changes.{sealed}
 use Rattle.register.specs.Calls.{Seals}
-use Rattle.records.proofs.Does.{does-refused, does-accepted}
+use Rattle.changes.proofs.Does.{does-refused, does-accepted}
 use Rattle.register.proofs.undoing.seal.Statement.{statement}
 use Rattle.register.proofs.undoing.seal.Tie as tie
 

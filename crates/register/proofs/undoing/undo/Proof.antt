@@ -4,7 +4,7 @@ use borrow.Author.Tests.{not-true, not-false}
 use borrow.Author.Needs.{needs}
 use Rattle.image.proofs.WellFormed.{formed}
 use Rattle.register.specs.Calls.{undoGrounds, Undoes}
-use Rattle.records.proofs.Does.{does-refused}
+use Rattle.changes.proofs.Does.{does-refused}
 use Rattle.register.proofs.undoing.undo.Statement.{statement}
 use Rattle.register.proofs.undoing.undo.Tie as tie
 

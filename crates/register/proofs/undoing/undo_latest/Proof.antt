@@ -4,7 +4,7 @@ use borrow.Author.Tests.{eq-eqb, ne-eqb}
 use borrow.Author.Needs.{needs}
 use Rattle.register.specs.declared.Undone.the-variants.{Number}
 use Rattle.register.specs.Calls.{undoGrounds, Undoes}
-use Rattle.records.proofs.Does.{does-refused, does-accepted}
+use Rattle.changes.proofs.Does.{does-refused, does-accepted}
 use Rattle.register.proofs.Latest.{issued-room, latest-read, latest-issued, latest-undone}
 use Rattle.register.proofs.undoing.undo_latest.Statement.{statement}
 use Rattle.register.proofs.undoing.undo_latest.Tie as tie

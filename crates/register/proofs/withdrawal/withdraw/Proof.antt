@@ -4,7 +4,7 @@ use borrow.Author.Tests.{not-true, not-false}
 use borrow.Author.Needs.{needs}
 use Rattle.image.proofs.WellFormed.{formed}
 use Rattle.register.specs.Calls.{withdrawalGrounds, Withdraws}
-use Rattle.records.proofs.Does.{does-refused}
+use Rattle.changes.proofs.Does.{does-refused}
 use Rattle.register.proofs.withdrawal.withdraw.Statement.{statement}
 use Rattle.register.proofs.withdrawal.withdraw.Tie as tie
 

@@ -3,8 +3,8 @@ use mathlib.Core.Path.{refl}
 use borrow.Author.Tests.{eq-eqb, ne-eqb, lt-ltb, le-ltb, le-leb, lt-leb}
 use borrow.Author.Needs.{needs}
 use Rattle.register.specs.Calls.{withdrawalGrounds, Withdraws}
-use Rattle.records.specs.Changes.{withdrawn}
-use Rattle.records.proofs.Does.{does-refused, does-accepted}
+use Rattle.changes.specs.Changes.{withdrawn}
+use Rattle.changes.proofs.Does.{does-refused, does-accepted}
 use Rattle.register.proofs.withdrawal.withdraw_number.Statement.{statement}
 use Rattle.register.proofs.withdrawal.withdraw_number.Tie as tie
 

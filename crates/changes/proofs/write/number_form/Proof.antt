@@ -1,0 +1,107 @@
+-- Four writes, each by what was read before them.
+use Prim.Native.Nat.{ℕ, _+_}
+use native.Mathlib.Omega.{arith}
+use mathlib.Core.Path.{ap}
+use borrow.Author.Needs.{needs}
+use Rattle.changes.proofs.Rows.{numbered-as}
+use Rattle.changes.proofs.write.number_form.Statement.{statement}
+use Rattle.changes.proofs.write.number_form.Tie as tie
+
+read-number-requires : tie.Need-read-number-requires
+read-number-requires c κs = search needs
+
+add-number : tie.Need-add-number
+add-number c = search needs
+
+read-number-requires-2 : tie.Need-read-number-requires-2
+read-number-requires-2 c κs = search needs
+
+read-number-requires-3 : tie.Need-read-number-requires-3
+read-number-requires-3 c κs = search needs
+
+read-number-requires-4 : tie.Need-read-number-requires-4
+read-number-requires-4 c κs = search needs
+
+read-number-requires-5 : tie.Need-read-number-requires-5
+read-number-requires-5 c κs = search needs
+
+record-at-requires : tie.Need-record-at-requires
+record-at-requires c κs = search needs
+
+put-record-requires : tie.Need-put-record-requires
+put-record-requires c κs = search needs
+
+add-put-replacement : tie.Need-add-put-replacement
+add-put-replacement c = search needs
+
+put-replacement-requires : tie.Need-put-replacement-requires
+put-replacement-requires c κs = search needs
+
+add-put-counts : tie.Need-add-put-counts
+add-put-counts c = search needs
+
+put-counts-requires : tie.Need-put-counts-requires
+put-counts-requires c κs = search needs
+
+journal-requires : tie.Need-journal-requires
+journal-requires c κs =
+    let t = c .before .before .before .before .before .before .before .before .before .before .before .before .before .before in
+    let s = t .before .before .before .before .before .before .before .before .before .before .before .before .before .before in
+    let h = s .pre .0 in
+    let p = s .pre .1 .1 in
+    let at = t .before .before .read-number4 .ensures .0 in
+    let count = t .read-number5 .ensures .0 in (
+      omega (arith, h .journal, at),
+      omega (arith, p .2, h .journal-limit, count),
+      omega (
+        arith,
+        p .2,
+        h .journal,
+        h .pool,
+        h .whole,
+        at,
+        count,
+        c .before .before .before .put-counts .kept .0,
+        c .before .before .before .before .before .before .before .put-replacement .kept .0,
+        c .before .before .before .before .before .before .before .before .before .before .before .put-record .kept .0,
+      ),
+    )
+
+same-length : tie.Need-same-length
+same-length c = search needs
+
+returns : tie.Need-returns
+returns c =
+    let t = c .before .before .before .before .before .before .before .before .before .before .before .before .before .before .before in
+    let s = t .before .before .before .before .before .before .before .before .before .before .before .before .before .before .before .before in
+    rw (
+      c .before .before .journal .ensures,
+      c .before .before .before .before .before .before .put-counts .ensures,
+      c .before .before .before .before .before .before .before .before .before .before .put-replacement .ensures,
+      c .before .before .before .before .before .before .before .before .before .before .before .before .before .before .put-record .ensures,
+    )
+    (numbered-as (s .args .image .now) (s .args .form) (s .args .a .now) (s .args .b .now) (s .args .c .now) _ _ _ _ _ _ (s .pre .1 .0)
+    (ap (λ (n : ℕ). n + 1) (t .before .before .before .before .before .before .before .before .before .before .read-number .ensures .0))
+    (t .before .before .before .before .before .before .before .before .read-number2 .ensures .0)
+    (t .before .before .before .before .before .before .read-number3 .ensures .0)
+    (t .before .before .before .before .read-number4 .ensures .0) (t .before .before .read-number5 .ensures .0) (t .record-at .ensures .0))
+
+pub number-form-spec : {M : Type 1} → statement M
+number-form-spec =
+    tie.close
+    (tie.spec
+    read-number-requires
+    add-number
+    read-number-requires-2
+    read-number-requires-3
+    read-number-requires-4
+    read-number-requires-5
+    record-at-requires
+    put-record-requires
+    add-put-replacement
+    put-replacement-requires
+    add-put-counts
+    put-counts-requires
+    journal-requires
+    same-length
+    returns)

@@ -1,0 +1,11 @@
+// What changes write in a well-formed image (document 01, "The register image"). The calls of `blank`,
+// `entering` (by `numbering`) and `register` are made of these.
+//
+// specs/Changes.antt has what each change leaves of the image, and specs/Does.antt what a call on an image
+// promises.
+mod write;
+
+pub use write::change;
+pub use write::mark;
+pub use write::number_form;
+pub use write::put_four;
