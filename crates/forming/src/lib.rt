@@ -1,5 +1,5 @@
 // The calls for a normal form (document 01, "The normal form"): an allele is tested, formed and written.
-// Crates `lines`, `identify` and `entering` stand on them.
+// Crates `answers`, `identify` and `entering` stand on them.
 //
 // specs/Calls.antt has what they promise, and specs/Worked.antt the worked alleles as calls.
 mod call;
