@@ -22,7 +22,8 @@ NAME/LABEL. The gate tries each one. tests/wrong_versions.py makes this page of 
 [CONTRIBUTING.md](CONTRIBUTING.md) says how to write one.
 
 The bodies of `running::feed`, `running::finish` and their C exports are walked statement by statement, so any change to
-them is refused for its shape. Their wrong versions keep the code and promise something else.
+them is refused for its shape. So the wrong versions in `running`, and finish's in `fearnavult`, keep the code and promise
+something else; the others of these calls change what stands below.
 """
 
 

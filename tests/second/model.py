@@ -106,17 +106,21 @@ def common_suffix(one, other):
     return common_prefix(one[::-1], other[::-1])
 
 
+def altered(reference, start, end, replacement):
+    return reference[:start] + replacement + reference[end:]
+
+
 @lru_cache(1)  # often asked twice in a row
 def form(reference, start, end, replacement):
     """The normal form of an allele that nothing speaks against: both whole sequences are compared, from
     either end, and the two lengths may overlap."""
-    altered = reference[:start] + replacement + reference[end:]
-    if altered == reference:
+    made = altered(reference, start, end, replacement)
+    if made == reference:
         return Form(UNCHANGED, start, end, replacement)
-    n, m = len(reference), len(altered)
-    p, q, k = common_prefix(reference, altered), common_suffix(reference, altered), min(n, m)
+    n, m = len(reference), len(made)
+    p, q, k = common_prefix(reference, made), common_suffix(reference, made), min(n, m)
     a, b = min(p, max(k - q, 0)), min(q, max(k - p, 0))
-    return Form(SUBSTITUTION if p + q < k else INDEL, a, n - b, altered[a:m - b])
+    return Form(SUBSTITUTION if p + q < k else INDEL, a, n - b, made[a:m - b])
 
 
 def offered(reference, start, end, replacement):

@@ -1,4 +1,5 @@
-"""The normal form by the steps of VRS 1.1.2, and by the two lengths of the model: the same for each allele.
+"""The normal form by the steps of VRS 1.1.2, and by the two lengths of the model: the same for each allele, and it
+makes the allele's altered sequence.
 
 usage: steps.py      (compares both and says how many alleles it has tried)
 """
@@ -7,7 +8,7 @@ import sys
 from itertools import chain
 
 import alleles
-from model import INDEL, SUBSTITUTION, UNCHANGED, Form, form
+from model import INDEL, SUBSTITUTION, UNCHANGED, Form, altered, form
 
 SEED = 42
 GENERATED = 4000
@@ -59,8 +60,11 @@ def main():
         if steps != lengths:
             print(f"DISAGREEMENT at {allele}\n  by steps    {steps}\n  by lengths  {lengths}")
             sys.exit("steps: FAILED")
+        if altered(allele[0], lengths.start, lengths.end, lengths.replacement) != altered(*allele):
+            print(f"DISAGREEMENT at {allele}\n  another sequence is made by {lengths}")
+            sys.exit("steps: FAILED")
         tried += 1
-    print(f"steps: ok, {tried} alleles have the same normal form by steps and by lengths")
+    print(f"steps: ok, {tried} alleles have the same normal form by steps and by lengths, and it makes their sequence")
 
 
 if __name__ == "__main__":
