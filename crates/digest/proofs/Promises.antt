@@ -4,7 +4,7 @@ use mathlib.Core.Path.{_≡_}
 use mathlib.Core.List.{List}
 use Rattle.refusal.specs.declared.Written.{Written}
 use Rattle.refusal.proofs.Unique.{one-answer}
-use Rattle.refusal.proofs.Writes.{writes-once}
+use Rattle.refusal.proofs.Keeps.{keeps-once}
 use Rattle.sha512.specs.declared.Running.{Running}
 use Rattle.sha512.specs.Parts.{begun}
 use Rattle.digest.specs.declared.Fed.{Fed}
@@ -12,10 +12,10 @@ use Rattle.digest.specs.Calls.{Identifies, Finishes, feeding}
 
 module _ (out : List ℕ) (place : ℕ) (a₁ a₂ : Written) (l₁ l₂ : List ℕ) where
   pub identifies-once : (reference : List ℕ) → Identifies reference out place a₁ l₁ → Identifies reference out place a₂ l₂ → (a₁ ≡ a₂) × (l₁ ≡ l₂)
-  identifies-once reference p q = writes-once _ _ out place a₁ a₂ l₁ l₂ p q
+  identifies-once reference p q = keeps-once _ _ _ _ _ a₁ a₂ l₁ l₂ p q
 
   pub finishes-once : (state : Running) → Finishes state out place a₁ l₁ → Finishes state out place a₂ l₂ → (a₁ ≡ a₂) × (l₁ ≡ l₂)
-  finishes-once state p q = writes-once _ _ out place a₁ a₂ l₁ l₂ p q
+  finishes-once state p q = keeps-once _ _ _ _ _ a₁ a₂ l₁ l₂ p q
 
 pub feeds-once : (state : Running) (part : List ℕ) (f₁ f₂ : Fed) → f₁ ≡ feeding state part → f₂ ≡ feeding state part → f₁ ≡ f₂
 feeds-once state part f₁ f₂ p q = one-answer p q

@@ -2,14 +2,13 @@
 use Prim.Native.Nat.{ℕ, _+_}
 use mathlib.Core.Path.{_≡_}
 use mathlib.Core.List.{List, [], _∷_, _++_}
-use lib.Dec.{ltb}
 use lib.ListN.{length}
-use Rattle.refusal.specs.Limits.{referenceLimit}
-use Rattle.refusal.specs.Verdict.{Ground, ground, verdict, tell, leave}
-use Rattle.refusal.specs.Writes.{outputTooShort, Writes}
+use Rattle.refusal.specs.Verdict.{Ground, verdict, tell, leave}
+use Rattle.refusal.specs.Grounds.{referenceOverLimit, outputTooShort}
+use Rattle.refusal.specs.Writes.{Writes}
 use Rattle.refusal.specs.declared.Outcome.the-variants.{Accepted, Refused}
 use Rattle.refusal.specs.declared.Written.{Written}
-use Rattle.letters.specs.Letters.{foreign}
+use Rattle.letters.specs.Letters.{foreignGiven}
 use Rattle.sha512.specs.declared.Running.{Running}
 use Rattle.sha512.specs.Parts.{fed, finished}
 use Rattle.encoding.specs.Digest.{digestText}
@@ -18,10 +17,7 @@ use Rattle.digest.specs.declared.Fed.{Fed}
 
 -- what is asked of a whole reference: 1, 4
 abbrev pub referenceGrounds : List ℕ → List Ground
-referenceGrounds reference =
-    ground (ltb referenceLimit (length reference)) 1 0
-    ∷ ground (ltb (foreign reference) (length reference)) 4 (foreign reference)
-    ∷ []
+referenceGrounds reference = referenceOverLimit (length reference) ∷ foreignGiven reference ∷ []
 
 -- its identifier: these, then 6
 abbrev pub wholeGrounds : List ℕ → ℕ → ℕ → List Ground
@@ -29,15 +25,11 @@ wholeGrounds reference room place = referenceGrounds reference ++ (outputTooShor
 
 -- a part for the running digest: 1, 4
 abbrev pub partGrounds : ℕ → List ℕ → List Ground
-partGrounds total part =
-    ground (ltb referenceLimit (total + length part)) 1 0
-    ∷ ground (ltb (foreign part) (length part)) 4 (foreign part)
-    ∷ []
+partGrounds total part = referenceOverLimit (total + length part) ∷ foreignGiven part ∷ []
 
 -- its finish: 1 for a lent total over the limit, then 6
 abbrev pub finishGrounds : ℕ → ℕ → ℕ → List Ground
-finishGrounds total room place =
-    ground (ltb referenceLimit total) 1 0 ∷ outputTooShort room place 41 ∷ []
+finishGrounds total room place = referenceOverLimit total ∷ outputTooShort room place 41 ∷ []
 
 -- the identifier is written from the place on, or nothing
 abbrev pub Identifies : List ℕ → List ℕ → ℕ → Written → List ℕ → Type 0

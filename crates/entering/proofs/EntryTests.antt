@@ -21,8 +21,8 @@ use Rattle.forming.specs.declared.Located.the-variants.{Accepted as Found, Refu
 use Rattle.forming.specs.Calls.{formGrounds, locatedClean}
 use Rattle.forming.proofs.Answers.{told-accepted, told-refused, clean-accepted, clean-refused, clean-allele}
 use Rattle.image.specs.Formed.{wellFormed}
-use Rattle.changes.specs.Does.{Does}
-use Rattle.changes.proofs.Does.{does-refused, does-as}
+use Rattle.refusal.specs.Keeps.{Keeps}
+use Rattle.refusal.proofs.Keeps.{keeps-refused, keeps-as}
 use Rattle.numbering.specs.declared.Entered.{Entered}
 use Rattle.numbering.specs.declared.Entered.the-variants.{Refused as Unentered}
 use Rattle.numbering.specs.Found.{found, entered}
@@ -77,14 +77,14 @@ module _ (r : List ℕ) (start end : ℕ) (x : List ℕ) where
     unfolding EntersForm EntersAllele
     enters-allele b answer left p =
         let f = normal r start end x in
-        does-as _ _ _ _ _ (verdict (roomGrounds b f (found b f))) _ _ (verdict-then (changeGrounds r start end x)
+        keeps-as _ _ _ _ _ (verdict (roomGrounds b f (found b f))) _ _ (verdict-then (changeGrounds r start end x)
         (roomGrounds b f (found b f)) (told .0))
-        (subst (λ (g : Normal). Does Unentered (verdict (roomGrounds b g (found b g))) (found b g) b (entered b g (found b g)) answer left) form p)
+        (subst (λ (g : Normal). Keeps Unentered (verdict (roomGrounds b g (found b g))) (found b g) b (entered b g (found b g)) answer left) form p)
 
   pub enters-no-allele : (b : List ℕ) (why : Refusal) → Unfound why ≡ changeAnswer r start end x → EntersAllele b r start end x (Unentered why) b
   unfolding EntersAllele
   enters-no-allele b why e =
-      does-refused _ _ _ _ _ why (verdict-first (changeGrounds r start end x) _ why
+      keeps-refused _ _ _ _ _ why (verdict-first (changeGrounds r start end x) _ why
       (told-refused (verdict (changeGrounds r start end x)) why (stretchesOf r start end x) e))
 
   -- the image's grounds before the allele's
@@ -92,11 +92,11 @@ module _ (r : List ℕ) (start end : ℕ) (x : List ℕ) where
     pub enters-on : (answer : Entered) (left : List ℕ) → Accepted ≡ imageAnswer b digest r → EntersAllele b r start end x answer left
         → Enters b digest r start end x answer left
     unfolding EntersAllele Enters entryGrounds
-    enters-on answer left e p = does-as _ _ _ _ _ _ _ _ (verdict-then (imageGrounds b digest r) _ (outcome-accepted _ e)) p
+    enters-on answer left e p = keeps-as _ _ _ _ _ _ _ _ (verdict-then (imageGrounds b digest r) _ (outcome-accepted _ e)) p
 
     pub enters-nothing : (why : Refusal) → Refused why ≡ imageAnswer b digest r → Enters b digest r start end x (Unentered why) b
     unfolding Enters entryGrounds
-    enters-nothing why e = does-refused _ _ _ _ _ why (verdict-first (imageGrounds b digest r) _ why (outcome-refused _ why e))
+    enters-nothing why e = keeps-refused _ _ _ _ _ why (verdict-first (imageGrounds b digest r) _ why (outcome-refused _ why e))
 
 pub image-formed : (b digest r : List ℕ) → Accepted ≡ imageAnswer b digest r → wellFormed b ≡ true
 unfolding imageGrounds

@@ -11,7 +11,7 @@ use Rattle.normal.specs.Form.{normal}
 use Rattle.normal.specs.Stretches.{stretchesOf}
 use Rattle.forming.specs.declared.Located.{Located}
 use Rattle.forming.specs.declared.Located.the-variants.{Accepted as Found, Refused as Unfound}
-use Rattle.changes.specs.Does.{Does}
+use Rattle.refusal.specs.Keeps.{Keeps}
 use Rattle.numbering.specs.declared.Entered.{Entered}
 use Rattle.numbering.specs.declared.Entered.the-variants.{Refused as Unentered}
 use Rattle.numbering.specs.Found.{found, entered}
@@ -35,4 +35,4 @@ changeAnswer r start end x = tell Unfound (verdict (changeGrounds r start end x)
 unfoldable pub EntersAllele : List ℕ → List ℕ → ℕ → ℕ → List ℕ → Entered → List ℕ → Type 0
 EntersAllele b r start end x =
     let f = normal r start end x in
-    Does Unentered (verdict (changeGrounds r start end x ++ roomGrounds b f (found b f))) (found b f) b (entered b f (found b f))
+    Keeps Unentered (verdict (changeGrounds r start end x ++ roomGrounds b f (found b f))) (found b f) b (entered b f (found b f))

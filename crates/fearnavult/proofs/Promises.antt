@@ -4,7 +4,7 @@ use mathlib.Core.Path.{_≡_, _∙_, sym, ap}
 use mathlib.Core.List.{List}
 use Rattle.refusal.specs.Verdict.{Verdict}
 use Rattle.refusal.specs.Writes.{Writes, Says}
-use Rattle.refusal.proofs.Writes.{writes-once}
+use Rattle.refusal.proofs.Keeps.{keeps-once}
 use Rattle.forming.specs.Calls.{Normalises}
 use Rattle.forming.proofs.Promises.{normalises-once}
 use Rattle.reading.specs.Accepted.{ReadsLocation, ReadsAllele}
@@ -48,7 +48,7 @@ flat-feeds-once state part a₁ a₂ s₁ s₂ = flat-left-once flatOutcome (λ 
 module _ (out : List ℕ) (place : ℕ) (a₁ a₂ : FvWritten) (l₁ l₂ : List ℕ) where
   flat-writes-once : (v : Verdict) (text : List ℕ)
       → Flattened flatWritten (λ w. Writes v text out place w l₁) a₁ → Flattened flatWritten (λ w. Writes v text out place w l₂) a₂ → (a₁ ≡ a₂) × (l₁ ≡ l₂)
-  flat-writes-once v text = flat-left-once flatWritten (λ l w. Writes v text out place w l) a₁ a₂ l₁ l₂ (λ x y. writes-once v text out place x y l₁ l₂)
+  flat-writes-once v text = flat-left-once flatWritten (λ l w. Writes v text out place w l) a₁ a₂ l₁ l₂ (λ x y. keeps-once _ _ _ _ _ x y l₁ l₂)
 
   pub flat-identifies-once : (reference : List ℕ)
       → Flattened flatWritten (λ w. Identifies reference out place w l₁) a₁ → Flattened flatWritten (λ w. Identifies reference out place w l₂) a₂ → (a₁ ≡ a₂) × (l₁ ≡ l₂)

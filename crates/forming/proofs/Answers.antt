@@ -14,8 +14,8 @@ use Rattle.refusal.specs.declared.Refusal.{Refusal}
 use Rattle.refusal.specs.Limits.{referenceLimit, replacementLimit}
 use Rattle.refusal.specs.Verdict.{Verdict, accepted, refused, verdict, tell}
 use Rattle.refusal.proofs.Verdict.{none-holds, verdict-first, verdict-fewer, verdict-then}
-use Rattle.refusal.specs.Writes.{outputTooShort}
-use Rattle.letters.specs.Letters.{foreign}
+use Rattle.refusal.specs.Grounds.{outputTooShort}
+use Rattle.letters.specs.Letters.{foreign, foreignNormal}
 use Rattle.normal.specs.declared.Stretches.{Stretches}
 use Rattle.normal.specs.Form.{Allele, Normal, normal}
 use Rattle.normal.specs.Stretches.{Fits, joined, stretchesOf, formIn}
@@ -25,7 +25,7 @@ use Rattle.forming.specs.declared.Located.{Located}
 use Rattle.forming.specs.declared.Located.the-variants.{Accepted, Refused}
 use Rattle.forming.specs.declared.Normalised.{Normalised}
 use Rattle.forming.specs.declared.Normalised.the-variants.{Accepted as Formed, Refused as Unformed}
-use Rattle.forming.specs.Calls.{givenGrounds, foreignNormal, formGrounds, normalGrounds, located, locatedClean, cleanly, Forms, Lays, Normalises}
+use Rattle.forming.specs.Calls.{givenGrounds, formGrounds, normalGrounds, located, locatedClean, cleanly, Forms, Lays, Normalises}
 
 pub told-accepted : (v : Verdict) (w u : Stretches) → Accepted w ≡ tell Refused v (Accepted u) → (v ≡ accepted) × (w ≡ u)
 told-accepted accepted w u h = (refl, cc)

@@ -8,7 +8,7 @@ use Rattle.stretch.specs.Common.{lcp, lcs}
 use Rattle.stretch.specs.Over.{over}
 use Rattle.stretch.specs.Same.{same}
 use Rattle.refusal.specs.Verdict.{Verdict, accepted, verdict}
-use Rattle.refusal.specs.Writes.{outputTooShort}
+use Rattle.refusal.specs.Grounds.{outputTooShort}
 use Rattle.refusal.proofs.Verdict.{verdict-then}
 use Rattle.letters.specs.Letters.{residue, firstOutside}
 use Rattle.normal.specs.Form.{altered, shorter, within, ahead, behind, kindIn, kindOf, changedForm, normal}

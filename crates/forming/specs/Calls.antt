@@ -1,14 +1,12 @@
 -- What the calls on normal forms promise: the grounds of each in document 01's order, the answer, and what is left in what was lent.
 use Prim.Native.Nat.{ℕ}
-use mathlib.Core.Path.{_≡_}
 use mathlib.Core.List.{List, [], _∷_, _++_}
-use lib.Dec.{ltb}
 use lib.ListN.{length}
 use Rattle.stretch.specs.Over.{over}
-use Rattle.refusal.specs.Limits.{referenceLimit, replacementLimit}
-use Rattle.refusal.specs.Verdict.{Ground, ground, Verdict, verdict, tell, leave}
-use Rattle.refusal.specs.Writes.{outputTooShort}
-use Rattle.letters.specs.Letters.{foreign}
+use Rattle.refusal.specs.Verdict.{Ground, Verdict, verdict, tell}
+use Rattle.refusal.specs.Grounds.{referenceOverLimit, replacementOverLimit, startAboveEnd, endAboveReference, outputTooShort}
+use Rattle.refusal.specs.Keeps.{Keeps}
+use Rattle.letters.specs.Letters.{foreignGiven, foreignNormal}
 use Rattle.normal.specs.declared.Stretches.{Stretches}
 use Rattle.normal.specs.Form.{Normal, normal}
 use Rattle.normal.specs.Stretches.{joined, stretchesOf, formIn}
@@ -21,16 +19,12 @@ use Rattle.forming.specs.declared.Normalised.the-variants.{Accepted as F
 -- an allele as given: 1, 2, 3, 4
 abbrev pub givenGrounds : List ℕ → ℕ → ℕ → List ℕ → List Ground
 givenGrounds r start end x =
-    ground (ltb referenceLimit (length r)) 1 0
-    ∷ ground (ltb replacementLimit (length x)) 1 1
-    ∷ ground (ltb end start) 2 0
-    ∷ ground (ltb (length r) end) 3 (length r)
-    ∷ ground (ltb (foreign x) (length x)) 4 (foreign x)
+    referenceOverLimit (length r)
+    ∷ replacementOverLimit (length x)
+    ∷ startAboveEnd start end
+    ∷ endAboveReference (length r) end
+    ∷ foreignGiven x
     ∷ []
-
--- 5: a foreign byte in the normal replacement
-abbrev pub foreignNormal : List ℕ → Ground
-foreignNormal t = ground (ltb (foreign t) (length t)) 5 (foreign t)
 
 -- 1, 2, 3, 4, 5
 unfoldable pub formGrounds : List ℕ → ℕ → ℕ → List ℕ → List Ground
@@ -57,9 +51,8 @@ abbrev pub told : Normal → Form
 told f = record { kind = f .kind; start = f .start; end = f .end; length = length (f .replacement) }
 
 -- the form is answered and its replacement stands in the buffer from the place on, or the buffer is as it was
-pub record Forms (v : Verdict) (f : Normal) (out : List ℕ) (place : ℕ) (answer : Normalised) (left : List ℕ) : Type 0 where
-  pub answers : answer ≡ tell Unformed v (Formed (told f))
-  pub leaves : left ≡ leave v out (over out place (f .replacement))
+abbrev pub Forms : Verdict → Normal → List ℕ → ℕ → Normalised → List ℕ → Type 0
+Forms v f out place = Keeps Unformed v (Formed (told f)) out (over out place (f .replacement))
 
 -- 6 alone, of stretches that are found
 abbrev pub Lays : List ℕ → ℕ → ℕ → List ℕ → Stretches → List ℕ → ℕ → Normalised → List ℕ → Type 0

@@ -16,7 +16,8 @@ use Rattle.forming.specs.Calls.{formGrounds}
 use Rattle.image.specs.Fields.{issued, journalCapacity, journalCount, referenceLength, statusOf, active}
 use Rattle.image.specs.Formed.{wellFormed}
 use Rattle.numbering.specs.Found.{found}
-use Rattle.changes.specs.Does.{Does, notFormed}
+use Rattle.refusal.specs.Keeps.{Keeps}
+use Rattle.changes.specs.Grounds.{notWellFormed}
 use Rattle.numbering.specs.Calls.{roomGrounds}
 use Rattle.entering.specs.Calls.{imageGrounds, changeGrounds, entryGrounds}
 use Rattle.register.specs.Calls.{withdrawalGrounds, undoGrounds}
@@ -33,7 +34,7 @@ pub record Left {A : Type 0} (refuses : Refusal → A) (b : List ℕ) (answer : 
   pub leaves : left ≡ b
 
 pub done-or-left : {A : Type 0} (refuses : Refusal → A) (v : Verdict) (said : A) (b changed : List ℕ) (answer : A) (left : List ℕ)
-    → Does refuses v said b changed answer left → Done v said changed answer left ⊎ Left refuses b answer left
+    → Keeps refuses v said b changed answer left → Done v said changed answer left ⊎ Left refuses b answer left
 done-or-left refuses accepted said b changed answer left p = inl (record { passed = refl; answers = p .answers; leaves = p .leaves })
 done-or-left refuses (refused r) said b changed answer left p = inr (record { why = r; answers = p .answers; leaves = p .leaves })
 
@@ -67,8 +68,8 @@ undoable b v =
       some = let e = eqb-false (journalCount b) 0 (none-holds (undoGrounds b) v 1) in omega (arith, e);
     }
 
-pub sealable : (b : List ℕ) → verdict (notFormed b ∷ []) ≡ accepted → wellFormed b ≡ true
-sealable b v = not-false _ (none-holds (notFormed b ∷ []) v 0)
+pub sealable : (b : List ℕ) → verdict (notWellFormed b ∷ []) ≡ accepted → wellFormed b ≡ true
+sealable b v = not-false _ (none-holds (notWellFormed b ∷ []) v 0)
 
 -- an accepted entry: a well-formed image of this reference, and a changed allele that passes the normal form's tests
 pub record Enterable (b r : List ℕ) (start end : ℕ) (x : List ℕ) : Type 0 where

@@ -10,11 +10,11 @@ use borrow.Author.Tests.{leb-false, ltb-false}
 use Rattle.refusal.specs.Verdict.{verdict, accepted}
 use Rattle.refusal.specs.declared.Outcome.the-variants.{Accepted, Refused}
 use Rattle.refusal.proofs.Verdict.{none-holds, verdict-later}
-use Rattle.letters.specs.Letters.{residue, every, foreign}
+use Rattle.letters.specs.Letters.{residue, every, foreign, foreignNormal}
 use Rattle.letters.proofs.Outside.{foreign-le, foreign-none}
 use Rattle.normal.specs.Form.{Allele, Normal, altered, normal}
 use Rattle.normal.proofs.Laws.{normal-ordered, normal-inside}
-use Rattle.forming.specs.Calls.{givenGrounds, foreignNormal, formGrounds}
+use Rattle.forming.specs.Calls.{givenGrounds, formGrounds}
 use Rattle.forming.proofs.Answers.{clean-allele}
 use Rattle.image.specs.Fields.{issued, recordCapacity, journalCount, journalCapacity, poolUsed, poolCapacity, statusOf, entryOf, active, inactive}
 use Rattle.image.specs.Formed.{wellFormed}
@@ -26,7 +26,7 @@ use Rattle.register.specs.declared.Undone.the-variants.{Number, Refused as NotU
 use Rattle.numbering.specs.Found.{found}
 use Rattle.changes.specs.Changes.{withdrawn, reentered, numbered, undone, latest, sealed}
 use Rattle.numbering.specs.Found.{entered}
-use Rattle.changes.specs.Does.{notFormed}
+use Rattle.changes.specs.Grounds.{notWellFormed}
 use Rattle.numbering.specs.Calls.{roomGrounds}
 use Rattle.entering.specs.Calls.{Enters, entryGrounds}
 use Rattle.register.specs.Calls.{Withdraws, Undoes, Seals, withdrawalGrounds, undoGrounds}
@@ -246,4 +246,4 @@ module _ (r b : List ℕ) (state : State r b) where
       ⊎-elim
       (λ d. rw (d .leaves, s ∙ ap (outcomeEvent seal) (d .answers)) (sealed-step (sealable b (d .passed))))
       (λ d. refused-step e left (s ∙ ap (outcomeEvent seal) (d .answers)) (d .leaves))
-      (done-or-left Refused (verdict (notFormed b ∷ [])) Accepted b (sealed b) answer left p)
+      (done-or-left Refused (verdict (notWellFormed b ∷ [])) Accepted b (sealed b) answer left p)

@@ -7,7 +7,7 @@ use Rattle.refusal.specs.declared.Outcome.the-variants.{Accepted, Refused}
 use Rattle.refusal.specs.declared.Refusal.{Refusal}
 use Rattle.refusal.specs.Verdict.{accepted, refused, verdict}
 use Rattle.refusal.proofs.Verdict.{verdict-first, verdict-then, verdict-fewer, verdict-later, outcome-accepted, outcome-refused}
-use Rattle.letters.specs.Letters.{digestTextGrounds, digestTextAnswer}
+use Rattle.letters.specs.Letters.{digestTextGrounds, digestTextAnswer, foreignNormal}
 use Rattle.letters.proofs.DigestText.{digest-long}
 use Rattle.normal.specs.declared.Stretches.{Stretches}
 use Rattle.normal.specs.Form.{Normal, normal}
@@ -15,7 +15,7 @@ use Rattle.normal.specs.Stretches.{Fits, joined, stretchesOf, formIn}
 use Rattle.normal.proofs.Join.{stretches-fit, stretches-join}
 use Rattle.forming.specs.declared.Located.{Located}
 use Rattle.forming.specs.declared.Located.the-variants.{Accepted as Found, Refused as Unfound}
-use Rattle.forming.specs.Calls.{givenGrounds, foreignNormal, located, cleanly}
+use Rattle.forming.specs.Calls.{givenGrounds, located, cleanly}
 use Rattle.forming.proofs.Answers.{told-accepted, told-refused, given-allele, located-form}
 use Rattle.identify.specs.Calls.{alleleGrounds, alleleAnswer, restAnswer}
 

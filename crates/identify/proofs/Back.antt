@@ -10,11 +10,11 @@ use Rattle.refusal.specs.declared.Written.the-variants.{Bytes}
 use Rattle.refusal.specs.Limits.{sequenceLimit}
 use Rattle.refusal.proofs.Verdict.{none-holds, verdict-fewer, verdict-later}
 use Rattle.refusal.proofs.Says.{Said, says-said}
-use Rattle.letters.specs.Letters.{foreign, digestTextGrounds}
+use Rattle.letters.specs.Letters.{foreign, digestTextGrounds, foreignNormal}
 use Rattle.letters.proofs.Outside.{foreign-le, foreign-none}
 use Rattle.normal.specs.Form.{Allele, Normal, normal}
 use Rattle.normal.proofs.Laws.{normal-short}
-use Rattle.forming.specs.Calls.{givenGrounds, foreignNormal}
+use Rattle.forming.specs.Calls.{givenGrounds}
 use Rattle.forming.proofs.Answers.{given-allele}
 use Rattle.text.specs.Layout.{locationText, beforeLocation, beforeSequence}
 use Rattle.words.specs.Vocabulary.{Digest, Letters}

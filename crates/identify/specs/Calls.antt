@@ -4,13 +4,13 @@ use mathlib.Core.List.{List, [], _∷_, _++_}
 use Rattle.refusal.specs.Verdict.{Ground, verdict, tell}
 use Rattle.refusal.specs.Writes.{Says}
 use Rattle.refusal.specs.declared.Written.{Written}
-use Rattle.letters.specs.Letters.{digestTextGrounds}
+use Rattle.letters.specs.Letters.{foreignNormal, digestTextGrounds}
 use Rattle.normal.specs.declared.Stretches.{Stretches}
 use Rattle.normal.specs.Form.{normal}
 use Rattle.normal.specs.Stretches.{joined, stretchesOf}
 use Rattle.forming.specs.declared.Located.{Located}
 use Rattle.forming.specs.declared.Located.the-variants.{Accepted as Found, Refused as Unfound}
-use Rattle.forming.specs.Calls.{givenGrounds, foreignNormal}
+use Rattle.forming.specs.Calls.{givenGrounds}
 use Rattle.identify.specs.Identifier.{textOf, identifierOf}
 
 -- an allele and the digest of its sequence: 1, 2, 3, 4, then 7, then 5

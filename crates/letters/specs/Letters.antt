@@ -40,12 +40,24 @@ firstOutside p (x ∷ xs) = cond (p x) (suc (firstOutside p xs)) 0
 abbrev pub foreign : List ℕ → ℕ
 foreign s = firstOutside residue s
 
--- the grounds on which a digest text is turned away: its length first
+-- 4: a foreign byte in what is given
+abbrev pub foreignGiven : List ℕ → Ground
+foreignGiven s = ground (ltb (foreign s) (length s)) 4 (foreign s)
+
+-- 5: a foreign byte in the normal replacement
+abbrev pub foreignNormal : List ℕ → Ground
+foreignNormal s = ground (ltb (foreign s) (length s)) 5 (foreign s)
+
+-- 7: a digest text of another length, and one with a character outside base64url
+abbrev pub digestTextLength : List ℕ → Ground
+digestTextLength d = ground (not (eqb (length d) 32)) 7 32
+
+abbrev pub digestTextCharacter : List ℕ → Ground
+digestTextCharacter d = ground (ltb (firstOutside base64url d) (length d)) 7 (firstOutside base64url d)
+
+-- 7: its length first
 unfoldable pub digestTextGrounds : List ℕ → List Ground
-digestTextGrounds d =
-    ground (not (eqb (length d) 32)) 7 32
-    ∷ ground (ltb (firstOutside base64url d) (length d)) 7 (firstOutside base64url d)
-    ∷ []
+digestTextGrounds d = digestTextLength d ∷ digestTextCharacter d ∷ []
 
 -- what the check of a digest text answers
 abbrev pub digestTextAnswer : List ℕ → Outcome

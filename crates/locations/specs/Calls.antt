@@ -1,9 +1,8 @@
 -- What the calls on a location's text and identifier promise: the grounds of each in document 01's order, and what is written.
 use Prim.Native.Nat.{ℕ}
 use mathlib.Core.List.{List, [], _∷_, _++_}
-use lib.Dec.{ltb}
-use Rattle.refusal.specs.Limits.{referenceLimit}
-use Rattle.refusal.specs.Verdict.{Ground, ground, verdict, tell}
+use Rattle.refusal.specs.Grounds.{referenceOverLimit, startAboveEnd, endAboveReference}
+use Rattle.refusal.specs.Verdict.{Ground, verdict, tell}
 use Rattle.refusal.specs.Writes.{Says}
 use Rattle.refusal.specs.declared.Outcome.{Outcome}
 use Rattle.refusal.specs.declared.Outcome.the-variants.{Accepted, Refused}
@@ -14,11 +13,7 @@ use Rattle.locations.specs.Identifier.{locationIdentifier}
 
 -- an interval on a reference of length n: 1, 2, 3
 abbrev pub intervalGrounds : ℕ → ℕ → ℕ → List Ground
-intervalGrounds n start end =
-    ground (ltb referenceLimit n) 1 0
-    ∷ ground (ltb end start) 2 0
-    ∷ ground (ltb n end) 3 n
-    ∷ []
+intervalGrounds n start end = referenceOverLimit n ∷ startAboveEnd start end ∷ endAboveReference n end ∷ []
 
 -- a location: 1, 2, 3, 7
 unfoldable pub locationGrounds : ℕ → ℕ → ℕ → List ℕ → List Ground

@@ -29,7 +29,8 @@ ghost use Rattle.image.specs.Formed.{wellFormed};
 ghost use Rattle.image.specs.Header.{Header};
 ghost use Rattle.lookup.specs.Lookup.{asked};
 ghost use Rattle.changes.specs.Changes.{reentered};
-ghost use Rattle.changes.specs.Does.{Does, journalFull};
+ghost use Rattle.refusal.specs.Keeps.{Keeps};
+ghost use Rattle.changes.specs.Grounds.{noJournalRoom};
 ghost use Rattle.numbering.specs.declared.Entered.the-variants.{New, Again, Refused};
 ghost use Rattle.numbering.specs.Calls.{EntersAs, EntersForm};
 
@@ -37,7 +38,7 @@ ghost use Rattle.numbering.specs.Calls.{EntersAs, EntersForm};
 fn reenter(image: &mut [u8], number: usize) -> Entered
     requires { ⌜ Header (now image) ⌝ }
     requires { ⌜ (1 ≤ number) × (number ≤ issued (now image)) ⌝ }
-    ensures { λ r. ⌜ Does Refused (verdict (journalFull (now (image .entry)) ∷ [])) (Again number) (now (image .entry)) (reentered (now (image .entry)) number) r (now (image .exit)) ⌝ }
+    ensures { λ r. ⌜ Keeps Refused (verdict (noJournalRoom (now (image .entry)) ∷ [])) (Again number) (now (image .entry)) (reentered (now (image .entry)) number) r (now (image .exit)) ⌝ }
 {
     let capacity = read_number(image, JOURNAL_CAPACITY);
     if capacity <= read_number(image, JOURNAL_COUNT) {

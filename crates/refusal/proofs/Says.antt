@@ -14,9 +14,11 @@ use Rattle.refusal.specs.declared.Refusal.{Refusal}
 use Rattle.refusal.specs.declared.Written.{Written}
 use Rattle.refusal.specs.declared.Written.the-variants.{Bytes, Refused}
 use Rattle.refusal.specs.Verdict.{Ground, Verdict, accepted, refused, verdict, tell}
-use Rattle.refusal.specs.Writes.{outputTooShort, Writes, Says}
+use Rattle.refusal.specs.Grounds.{outputTooShort}
+use Rattle.refusal.specs.Writes.{Writes, Says}
 use Rattle.refusal.proofs.Verdict.{none-holds, verdict-first, verdict-then, verdict-fewer, verdict-later}
-use Rattle.refusal.proofs.Writes.{writes-nothing, writes-all, writes-as, writes-once}
+use Rattle.refusal.proofs.Keeps.{keeps-once}
+use Rattle.refusal.proofs.Writes.{writes-nothing, writes-all, writes-as}
 
 -- what an accepted write tells: the grounds, the length, the bytes
 written-bytes : (v : Verdict) (n k : ℕ) → Bytes k ≡ tell Refused v (Bytes n) → (v ≡ accepted) × (k ≡ n)
@@ -47,7 +49,7 @@ module _ (gs : List Ground) (text out : List ℕ) (place : ℕ) where
 
   pub says-once : (a₁ a₂ : Written) (l₁ l₂ : List ℕ) → Says gs text out place a₁ l₁ → Says gs text out place a₂ l₂ → (a₁ ≡ a₂) × (l₁ ≡ l₂)
   unfolding Says
-  says-once a₁ a₂ l₁ l₂ p q = writes-once _ text out place a₁ a₂ l₁ l₂ p q
+  says-once a₁ a₂ l₁ l₂ p q = keeps-once _ _ _ _ _ a₁ a₂ l₁ l₂ p q
 
 -- 6 alone, by the length that the code finds
 module _ (text out : List ℕ) (place n : ℕ) (long : n ≡ length text) where

@@ -3,14 +3,16 @@ use Prim.Native.Nat.{ℕ}
 use mathlib.Core.Path.{_≡_}
 use mathlib.Core.List.{List, [], _∷_}
 use Rattle.refusal.specs.declared.Outcome.{Outcome}
-use Rattle.refusal.specs.declared.Outcome.the-variants.{Accepted}
+use Rattle.refusal.specs.declared.Outcome.the-variants.{Accepted, Refused}
+use Rattle.refusal.specs.Verdict.{verdict}
+use Rattle.refusal.specs.Keeps.{Keeps}
 use Rattle.sha512.specs.declared.Running.{Running}
-use Rattle.digest.specs.Calls.{feeding}
+use Rattle.sha512.specs.Parts.{fed}
+use Rattle.digest.specs.Calls.{partGrounds}
 
 -- the outcome, and the state that the lent one has become
-pub record Feeds (state : Running) (part : List ℕ) (outcome : Outcome) (after : Running) : Type 0 where
-  pub answers : outcome ≡ feeding state part .outcome
-  pub leaves : after ≡ feeding state part .state
+abbrev pub Feeds : Running → List ℕ → Outcome → Running → Type 0
+Feeds state part = Keeps Refused (verdict (partGrounds (state .total) part)) Accepted state (fed state part)
 
 -- the state that it has become after several parts, each of them accepted
 abbrev pub FeedsAll : Running → List (List ℕ) → Running → Type 0

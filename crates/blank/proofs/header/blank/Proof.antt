@@ -4,7 +4,7 @@ use mathlib.Core.Path.{refl, _∙_, sym}
 use borrow.Author.Needs.{needs}
 use Rattle.refusal.specs.Verdict.{verdict}
 use Rattle.refusal.proofs.Verdict.{outcome-accepted, outcome-refused}
-use Rattle.changes.proofs.Does.{does-refused, does-accepted}
+use Rattle.refusal.proofs.Keeps.{keeps-refused, keeps-accepted}
 use Rattle.blank.specs.Calls.{blankGrounds}
 use Rattle.blank.proofs.BlankTests.{blankable}
 use Rattle.blank.proofs.header.blank.Statement.{statement}
@@ -30,11 +30,11 @@ same-length c = search needs
 
 returns : tie.Need-returns
 returns c =
-    does-accepted _ _ _ _ _ _ _ (outcome-accepted _ (sym (c .before .before .before .before .enum-told .given .1)
+    keeps-accepted _ _ _ _ _ _ _ (outcome-accepted _ (sym (c .before .before .before .before .enum-told .given .1)
     ∙ c .before .before .before .before .before .before .check-blank .ensures)) refl (c .before .before .write-header .ensures)
 
 returns-2 : tie.Need-returns-2
-returns-2 c = does-refused _ _ _ _ _ _ (outcome-refused _ _ (sym (c .before .why .given .1) ∙ c .before .before .before .check-blank .ensures))
+returns-2 c = keeps-refused _ _ _ _ _ _ (outcome-refused _ _ (sym (c .before .why .given .1) ∙ c .before .before .before .check-blank .ensures))
 
 pub blank-spec : {M : Type 1} → statement M
 blank-spec =

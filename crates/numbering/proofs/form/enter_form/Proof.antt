@@ -2,7 +2,7 @@
 use native.Mathlib.Omega.{arith}
 use mathlib.Core.Path.{refl}
 use borrow.Author.Needs.{needs}
-use Rattle.changes.proofs.Does.{does-accepted}
+use Rattle.refusal.proofs.Keeps.{keeps-accepted}
 use Rattle.numbering.proofs.Finding.{found-known, found-again, found-new, enters-as}
 use Rattle.numbering.proofs.form.enter_form.Statement.{statement}
 use Rattle.numbering.proofs.form.enter_form.Tie as tie
@@ -15,7 +15,7 @@ same-length c = search needs
 
 returns : tie.Need-returns
 returns c =
-    enters-as _ _ _ _ _ (found-known _ _ _ (c .before .lowest-holding .ensures .0) (c .if1 .taken)) (does-accepted _ _ _ _ _ _ _ refl refl refl)
+    enters-as _ _ _ _ _ (found-known _ _ _ (c .before .lowest-holding .ensures .0) (c .if1 .taken)) (keeps-accepted _ _ _ _ _ _ _ refl refl refl)
 
 lowest-holding-requires-2 : tie.Need-lowest-holding-requires-2
 lowest-holding-requires-2 c κs = search needs

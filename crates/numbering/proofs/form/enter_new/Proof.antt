@@ -6,7 +6,7 @@ use borrow.Author.Tests.{ltb-false, le-leb, lt-leb}
 use borrow.Author.Needs.{needs}
 use Rattle.stretch.proofs.Join.{length-three}
 use Rattle.numbering.specs.declared.Entered.the-variants.{New}
-use Rattle.changes.proofs.Does.{does-refused, does-accepted}
+use Rattle.refusal.proofs.Keeps.{keeps-refused, keeps-accepted}
 use Rattle.numbering.proofs.form.enter_new.Statement.{statement}
 use Rattle.numbering.proofs.form.enter_new.Tie as tie
 
@@ -24,7 +24,7 @@ same-length c = search needs
 
 returns : tie.Need-returns
 returns c =
-    does-refused _ _ _ _ _ _ (rw (
+    keeps-refused _ _ _ _ _ _ (rw (
       c .refuse .ensures,
       ← c .before .before .before .before .read-number .ensures .0,
       ← c .before .before .read-number2 .ensures .0,
@@ -50,7 +50,7 @@ returns-2 : tie.Need-returns-2
 returns-2 c =
     let t = c .before .before .before .before .before .before .before in
     let s = t .before .before .before .before .before .before .before .before .before in
-    does-refused _ _ _ _ _ _
+    keeps-refused _ _ _ _ _ _
     (rw (
       c .refuse2 .ensures,
       length-three (s .args .a .now) (s .args .b .now) (s .args .c .now) _ (s .pre .1),
@@ -82,7 +82,7 @@ returns-3 c =
     let u = c .before .before .before .before .before .before in
     let t = u .before .before .before .before .before .before in
     let s = t .before .before .before .before .before .before .before .before .before in
-    does-refused _ _ _ _ _ _
+    keeps-refused _ _ _ _ _ _
     (rw (
       c .refuse3 .ensures,
       length-three (s .args .a .now) (s .args .b .now) (s .args .c .now) _ (s .pre .1),
@@ -144,7 +144,7 @@ returns-4 c =
     let u = c .before .before .before .before .before .before .before .before .before in
     let t = u .before .before .before .before .before .before in
     let s = t .before .before .before .before .before .before .before .before .before in
-    does-accepted _ _ _ _ _ _ _
+    keeps-accepted _ _ _ _ _ _ _
     (rw (
       length-three (s .args .a .now) (s .args .b .now) (s .args .c .now) _ (s .pre .1),
       ← t .before .before .before .read-number .ensures .0,

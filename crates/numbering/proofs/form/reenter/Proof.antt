@@ -3,7 +3,7 @@ use mathlib.Core.Path.{refl}
 use borrow.Author.Tests.{le-leb, lt-leb}
 use borrow.Author.Needs.{needs}
 use Rattle.changes.specs.Changes.{reentered}
-use Rattle.changes.proofs.Does.{does-refused, does-accepted}
+use Rattle.refusal.proofs.Keeps.{keeps-refused, keeps-accepted}
 use Rattle.numbering.proofs.form.reenter.Statement.{statement}
 use Rattle.numbering.proofs.form.reenter.Tie as tie
 
@@ -21,7 +21,7 @@ same-length c = search needs
 
 returns : tie.Need-returns
 returns c =
-    does-refused _ _ _ _ _ _ (rw (
+    keeps-refused _ _ _ _ _ _ (rw (
       c .refuse .ensures,
       ← c .before .before .before .before .read-number .ensures .0,
       ← c .before .before .read-number2 .ensures .0,
@@ -37,7 +37,7 @@ same-length-2 c = search needs
 returns-2 : tie.Need-returns-2
 unfolding reentered
 returns-2 c =
-    does-accepted _ _ _ _ _ _ _ (rw (
+    keeps-accepted _ _ _ _ _ _ _ (rw (
       ← c .before .before .before .before .before .before .before .read-number .ensures .0,
       ← c .before .before .before .before .before .read-number2 .ensures .0,
       lt-leb _ _ (c .before .before .before .before .if1 .left),

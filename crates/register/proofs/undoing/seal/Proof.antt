@@ -6,7 +6,7 @@ use borrow.Author.Needs.{needs}
 use Rattle.image.proofs.WellFormed.{formed}
 use Rattle.changes.specs.Changes.{sealed}
 use Rattle.register.specs.Calls.{Seals}
-use Rattle.changes.proofs.Does.{does-refused, does-accepted}
+use Rattle.refusal.proofs.Keeps.{keeps-refused, keeps-accepted}
 use Rattle.register.proofs.undoing.seal.Statement.{statement}
 use Rattle.register.proofs.undoing.seal.Tie as tie
 
@@ -21,7 +21,7 @@ same-length c = search needs
 
 returns : tie.Need-returns
 unfolding Seals
-returns c = does-refused _ _ _ _ _ _ (rw (c .refuse .ensures, sym (c .before .before .well-formed .ensures) ∙ not-true _ (c .before .if1 .taken)))
+returns c = keeps-refused _ _ _ _ _ _ (rw (c .refuse .ensures, sym (c .before .before .well-formed .ensures) ∙ not-true _ (c .before .if1 .taken)))
 
 put-number-requires : tie.Need-put-number-requires
 put-number-requires c κs =
@@ -34,7 +34,7 @@ same-length-2 c = search needs
 returns-2 : tie.Need-returns-2
 unfolding Seals sealed
 returns-2 c =
-    does-accepted _ _ _ _ _ _ _ (rw (sym (c .before .before .before .before .before .well-formed .ensures) ∙ not-false _
+    keeps-accepted _ _ _ _ _ _ _ (rw (sym (c .before .before .before .before .before .well-formed .ensures) ∙ not-false _
     (c .before .before .before .before .if1 .left))) refl (c .before .before .put-number .ensures)
 
 pub seal-spec : {M : Type 1} → statement M

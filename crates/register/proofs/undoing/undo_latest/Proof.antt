@@ -4,7 +4,7 @@ use borrow.Author.Tests.{eq-eqb, ne-eqb}
 use borrow.Author.Needs.{needs}
 use Rattle.register.specs.declared.Undone.the-variants.{Number}
 use Rattle.register.specs.Calls.{undoGrounds, Undoes}
-use Rattle.changes.proofs.Does.{does-refused, does-accepted}
+use Rattle.refusal.proofs.Keeps.{keeps-refused, keeps-accepted}
 use Rattle.register.proofs.Latest.{issued-room, latest-read, latest-issued, latest-undone}
 use Rattle.register.proofs.undoing.undo_latest.Statement.{statement}
 use Rattle.register.proofs.undoing.undo_latest.Tie as tie
@@ -21,7 +21,7 @@ same-length c = search needs
 returns : tie.Need-returns
 unfolding Undoes undoGrounds
 returns c =
-    let s = c .before .before .before .before .before in does-refused _ _ _ _ _ _
+    let s = c .before .before .before .before .before in keeps-refused _ _ _ _ _ _
     (rw (c .refuse .ensures, s .pre .1, ← c .before .before .read-number .ensures .0, eq-eqb _ _ (c .before .if1 .taken)))
 
 read-number-requires-2 : tie.Need-read-number-requires-2
@@ -75,7 +75,7 @@ returns-2 c =
     let r = c .before .before .before .before .before .before .before .before .before .before .before in
     let t = r .before .before .before .before in
     let s = t .before .before .before .before in
-    does-accepted _ _ _ _ _ _ _ (rw (s .pre .1, ← t .before .read-number .ensures .0, ne-eqb _ _ (t .if1 .left)))
+    keeps-accepted _ _ _ _ _ _ _ (rw (s .pre .1, ← t .before .read-number .ensures .0, ne-eqb _ _ (t .if1 .left)))
     (ap Number (latest-read _ (s .pre .1) _ _ _ (t .before .read-number .ensures .0) (t .if1 .left)
     (r .before .before .read-number2 .ensures .0) (r .read-number3 .ensures .0)))
     (rw (

@@ -4,7 +4,7 @@ use borrow.Author.Tests.{not-true, not-false}
 use borrow.Author.Needs.{needs}
 use Rattle.image.proofs.WellFormed.{formed}
 use Rattle.register.specs.Calls.{withdrawalGrounds, Withdraws}
-use Rattle.changes.proofs.Does.{does-refused}
+use Rattle.refusal.proofs.Keeps.{keeps-refused}
 use Rattle.register.proofs.withdrawal.withdraw.Statement.{statement}
 use Rattle.register.proofs.withdrawal.withdraw.Tie as tie
 
@@ -19,7 +19,7 @@ same-length c = search needs
 
 returns : tie.Need-returns
 unfolding Withdraws withdrawalGrounds
-returns c = does-refused _ _ _ _ _ _ (rw (c .refuse .ensures, sym (c .before .before .well-formed .ensures) ∙ not-true _ (c .before .if1 .taken)))
+returns c = keeps-refused _ _ _ _ _ _ (rw (c .refuse .ensures, sym (c .before .before .well-formed .ensures) ∙ not-true _ (c .before .if1 .taken)))
 
 withdraw-number-requires : tie.Need-withdraw-number-requires
 withdraw-number-requires c κs = let e = sym (c .before .before .well-formed .ensures) ∙ not-false _ (c .before .if1 .left) in (formed _ e .header, e)

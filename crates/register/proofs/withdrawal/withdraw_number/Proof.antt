@@ -4,7 +4,7 @@ use borrow.Author.Tests.{eq-eqb, ne-eqb, lt-ltb, le-ltb, le-leb, lt-leb}
 use borrow.Author.Needs.{needs}
 use Rattle.register.specs.Calls.{withdrawalGrounds, Withdraws}
 use Rattle.changes.specs.Changes.{withdrawn}
-use Rattle.changes.proofs.Does.{does-refused, does-accepted}
+use Rattle.refusal.proofs.Keeps.{keeps-refused, keeps-accepted}
 use Rattle.register.proofs.withdrawal.withdraw_number.Statement.{statement}
 use Rattle.register.proofs.withdrawal.withdraw_number.Tie as tie
 
@@ -21,7 +21,7 @@ returns : tie.Need-returns
 unfolding Withdraws withdrawalGrounds
 returns c =
     let s = c .before .before .before .before .before in
-    does-refused _ _ _ _ _ _ (rw (c .refuse .ensures, ← c .before .before .read-number .ensures .0, s .pre .1, eq-eqb _ _ (c .before .if1 .taken)))
+    keeps-refused _ _ _ _ _ _ (rw (c .refuse .ensures, ← c .before .before .read-number .ensures .0, s .pre .1, eq-eqb _ _ (c .before .if1 .taken)))
 
 refuse-requires-2 : tie.Need-refuse-requires-2
 refuse-requires-2 c κs = search needs
@@ -33,7 +33,7 @@ returns-2 : tie.Need-returns-2
 unfolding Withdraws withdrawalGrounds
 returns-2 c =
     let s = c .before .before .before .before .before .before in
-    does-refused _ _ _ _ _ _ (rw (
+    keeps-refused _ _ _ _ _ _ (rw (
       c .refuse2 .ensures,
       ← c .before .before .before .read-number .ensures .0,
       s .pre .1,
@@ -55,7 +55,7 @@ returns-3 : tie.Need-returns-3
 unfolding Withdraws withdrawalGrounds
 returns-3 c =
     let s = c .before .before .before .before .before .before .before .before .before in
-    does-refused _ _ _ _ _ _
+    keeps-refused _ _ _ _ _ _
     (rw (
       c .refuse3 .ensures,
       ← c .before .before .before .before .before .before .read-number .ensures .0,
@@ -84,7 +84,7 @@ unfolding Withdraws withdrawalGrounds
 returns-4 c =
     let t = c .before .before .before .before .before .before in
     let s = t .before .before .before .before .before .before .before .before in
-    does-refused _ _ _ _ _ _
+    keeps-refused _ _ _ _ _ _
     (rw (
       c .refuse4 .ensures,
       ← t .before .before .before .before .before .read-number .ensures .0,
@@ -112,7 +112,7 @@ unfolding Withdraws withdrawalGrounds withdrawn
 returns-5 c =
     let t = c .before .before .before .before .before .before .before .before .before in
     let s = t .before .before .before .before .before .before .before .before in
-    does-accepted _ _ _ _ _ _ _
+    keeps-accepted _ _ _ _ _ _ _
     (rw (
       ← t .before .before .before .before .before .read-number .ensures .0,
       ← t .before .status-of .ensures,
