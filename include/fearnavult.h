@@ -87,7 +87,7 @@ fv_running fv_running_begin(void);
  *                 refused so;
  *   4, value i    part[i] is not a residue, and no byte before it is foreign.
  *
- * A state just begun takes `AC` and then `GT`; between them `G-` is refused { 4, 1 } and changes nothing.
+ * A state just begun takes `AC` and then `GT`; between them `Gx` is refused { 4, 1 } and changes nothing.
  */
 fv_outcome fv_running_feed(fv_running *state, const uint8_t *part, size_t part_len);
 
