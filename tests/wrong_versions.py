@@ -3,7 +3,7 @@
 usage: wrong_versions.py > docs/WRONG-VERSIONS.md
 
 An edit says in its comments which call's promise it breaks (`# call:`), which sentences of docs/DEMANDS.md (`# breaks:`,
-a line each) and on which input (`# input:`, INPUT: WRONG for RIGHT; lines behind it that begin `#   ` go on). Every call
+a line each) and on which input (`# input:`, INPUT: WRONG for RIGHT; lines after it that begin `#   ` go on). Every call
 of docs/CALLS.md has two edits at least, every function of include/fearnavult.h one, and so has every version to be ruled
 out and every mistake to be shut out. What an edit replaces stands in its file once.
 """
@@ -71,22 +71,30 @@ def fits(path, lines):
             texts[file] = texts[file].replace(old, line.removeprefix("new:").removeprefix(" "))
 
 
-def first_cells(*headings):
-    """The first cells of the rows of the tables of docs/DEMANDS.md whose first column has such a heading."""
+def rows(document, *headings):
+    """The cells of the rows of a document's tables whose first column has such a heading."""
     heading = ""
-    for line in Path("docs/DEMANDS.md").read_text("utf-8").splitlines():
-        cell = line.strip("|").split(" | ")[0].strip().replace("`", "")
+    for line in Path(document).read_text("utf-8").splitlines():
+        cells = [cell.strip().replace("`", "") for cell in line.strip("|").split(" | ")]
         if not line.startswith("|"):
             heading = ""
         elif not heading:
-            heading = cell
-        elif heading in headings and not cell.startswith("---"):
-            yield cell
+            heading = cells[0]
+        elif heading in headings and not cells[0].startswith("---"):
+            yield cells
+
+
+def first_cells(*headings):
+    return [cells[0] for cells in rows("docs/DEMANDS.md", *headings)]
 
 
 def calls_named():
-    headings = re.findall(r"(?m)^## .*$", Path("docs/CALLS.md").read_text("utf-8"))
-    return re.findall(r"`(\w+::\w+)\(", "\n".join(headings))
+    """The calls of docs/CALLS.md, whose second column has just the functions of the header."""
+    calls = list(rows("docs/CALLS.md", "call"))
+    in_c = {cells[1] for cells in calls} - {"none"}
+    if in_c != set(exports()):
+        fail("docs/CALLS.md and include/fearnavult.h differ in", ", ".join(sorted(in_c ^ set(exports()))))
+    return [cells[0] for cells in calls]
 
 
 def exports():
@@ -135,8 +143,9 @@ def main():
     for one in edits:
         if unknown := set(one.breaks) - set(sentences):
             fail(one.name, "breaks what docs/DEMANDS.md does not have:", "; ".join(sorted(unknown)))
-    named = [*calls_named(), *exports()]
-    require(by_call, calls_named(), 2)
+    calls = calls_named()
+    named = [*calls, *exports()]
+    require(by_call, calls, 2)
     require(by_call, exports(), 1)
     require(by_sentence, [*first_cells("version"), *first_cells("mistake")], 1)
     others = sorted(set(by_call) - set(named))
