@@ -2,19 +2,20 @@
  * Fearnavult: the calls that other software links.
  *
  * `./install PREFIX` puts this header into PREFIX/include and libfearnavult.a into PREFIX/lib. The
- * library is for x86-64, allocates nothing, has no state of its own, and calls memcpy and memset of
- * your C library and nothing else. examples/register.c is a whole program over it.
+ * library is for x86-64, allocates nothing, has no state of its own, and calls only memcpy and memset of
+ * your C library. examples/register.c is a whole program that uses it.
  *
  * A slice is a pointer and then its length in bytes. The pointer must not be null, even where the
  * length is 0, and that many bytes must be readable there (and writable, where it is not const)
  * for as long as the call runs. No two slices of one call may overlap. All memory stays the
- * caller's: no call keeps a pointer, and calls on different memory may run at one time.
+ * caller's: no call keeps a pointer, and calls on different memory may run at the same time.
  *
  * Each answer begins with two numbers:
- *   refusal  0 where the call is accepted, else the number of the ground that turned it away;
- *   value    what that ground returns with it, and 0 where the call is accepted.
- * Grounds are tried in the order in which a call lists them, and the first that holds is answered.
- * A call that is refused writes no byte.
+ *   refusal  0 where the call is accepted, else the number of the reason why it is refused;
+ *   value    what that reason returns with it, and 0 where the call is accepted.
+ * A call tests its reasons in the order in which it lists them, and answers the first that holds. A call
+ * that is refused writes no byte. Any value may be given for a number: a start, an end, a place, a
+ * length, a capacity. A residue is a byte from A to Z, and every other byte is foreign.
  */
 #ifndef FEARNAVULT_H
 #define FEARNAVULT_H
@@ -26,7 +27,7 @@
 extern "C" {
 #endif
 
-/* The answer of a call that is accepted or refused, and tells nothing else. */
+/* The answer of a call that is accepted or refused, and says nothing else. */
 typedef struct {
     uint64_t refusal;
     uint64_t value;
@@ -41,15 +42,14 @@ typedef struct {
 
 /*
  * Writes the identifier of a whole reference, from out[place] on: the 9 bytes `ga4gh:SQ.`, then the
- * 32 characters of its digest (the first 24 bytes of SHA-512 over the residues, in base64url with
- * no padding). That is 41 bytes; the bytes of `out` before and after them stay as they were, and no
- * zero byte is put at the end. A reference may be empty. Its residues are bytes from A to Z.
+ * 32 characters of its digest (the first 24 bytes of SHA-512 over the residues, in base64url without
+ * padding). That is 41 bytes; the bytes of `out` before and after them stay as they were, and no
+ * zero byte is put at the end. A reference may be empty.
  *
  * Accepted: { 0, 0, 41 }. Refused, in this order:
  *   1, value 0    the reference has over 1,000,000,000 bytes;
- *   4, value i    reference[i] is not a residue, and no byte before it is foreign;
- *   6, value 41   `out` has fewer than 41 bytes from `place` on, or `place` is past its end. No
- *                 `place` is too large to be refused so.
+ *   4, value i    reference[i] is foreign, the first such byte;
+ *   6, value 41   `out` has fewer than 41 bytes from `place` on, or `place` is past its end.
  *
  * With the reference `ACGT`, place 0 and room for 41 bytes, `out` then holds
  * ga4gh:SQ.aKF498dAxcJAqme6QYQ7EZ07-fiw8Kw2
@@ -58,19 +58,19 @@ fv_written fv_sequence_identifier(const uint8_t *reference, size_t reference_len
                                   uint8_t *out, size_t out_len, uint64_t place);
 
 /*
- * The digest of a reference that comes in parts, under way. Whoever declares one owns it, may copy it and
- * may save its bytes; the calls below read and write the one that they are lent. The pointer must not be
- * null and must be aligned as C aligns it, and the state must not overlap a slice of the same call.
- * Whatever it holds, no call faults.
+ * A running digest: the state between the parts of a reference that comes in parts. Whoever declares one
+ * owns it, may copy it and may save its bytes; the calls below read and write the one that they are lent.
+ * The pointer must not be null and must be aligned as C aligns it, and the state must not overlap a slice
+ * of the same call. Whatever it holds, no call faults.
  */
 typedef struct {
     uint64_t words[8];  /* SHA-512's hash value after the whole blocks */
-    uint8_t block[128]; /* the bytes that wait for the rest of their block, the first total % 128, then zeros */
-    uint64_t total;     /* how many residues there were so far */
+    uint8_t block[128]; /* the total % 128 bytes that wait for the rest of their block, then zeros */
+    uint64_t total;     /* how many residues so far */
 } fv_running;
 
 /*
- * Answers the digest of nothing yet. It is never refused.
+ * Answers the running digest of no part yet. It is never refused.
  *
  * Finished at once, it gives the identifier of the empty reference,
  * ga4gh:SQ.z4PhNX7vuL3xVChQ1m2AB9Yg5AULVxXc
@@ -78,14 +78,12 @@ typedef struct {
 fv_running fv_running_begin(void);
 
 /*
- * Goes on with one more part of the reference, which may be empty. Wherever a reference is cut, its
- * identifier is that of the whole. `state` is written where the part is accepted, and stays as it was,
- * every byte, where it is refused.
+ * Takes one more part of the reference, which may be empty. Wherever a reference is cut, its identifier
+ * is that of the whole. Where the part is refused, every byte of `state` stays as it was.
  *
  * Accepted: { 0, 0 }. Refused, in this order:
- *   1, value 0    state->total and part_len together are over 1,000,000,000. No total is too large to be
- *                 refused so;
- *   4, value i    part[i] is not a residue, and no byte before it is foreign.
+ *   1, value 0    state->total and part_len together are over 1,000,000,000;
+ *   4, value i    part[i] is foreign, the first such byte.
  *
  * A state just begun takes `AC` and then `GT`; between them `Gx` is refused { 4, 1 } and changes nothing.
  */
@@ -117,32 +115,31 @@ typedef struct {
 /*
  * Answers the fully justified normal form of an allele, and writes its replacement from out[place] on.
  *
- * An allele puts a replacement in the place of the residues between two positions of a reference. A
- * position lies between residues: 0 in front of the first, reference_len behind the last. The reference
+ * An allele puts a replacement in the place of the residues between two positions of a reference.
+ * Positions are interbase: 0 lies before the first residue, reference_len after the last. The reference
  * may be empty, start and end may be equal (an insertion), and the replacement may be empty (a deletion).
  *
- * The normal form is taken from the sequence that results: what that has in common with the reference
- * at either end is left out, but an insertion or a deletion that might stand at several places of a
- * repeat covers them all. So two alleles that make the same sequence, other than the reference itself,
- * have the same normal form. An allele that changes nothing is answered as it was given, with kind 0.
+ * The normal form depends on the altered sequence alone: what this has in common with the reference at
+ * either end is left out, but an insertion or a deletion that might stand at several places of a repeat
+ * covers them all. So two alleles that make the same sequence, other than the reference itself, have the
+ * same normal form. An allele that changes nothing is answered as it was given, with kind 0.
  *
  * The normal replacement has `length` bytes; the bytes of `out` before and after them stay as they
- * were. Where it is empty nothing is written, and a place right behind the last byte of `out` will do.
- * Residues are bytes from A to Z. Of the reference, only the bytes that come into the normal
- * replacement need to be residues. The time grows with what is trimmed, rolled over and written, not
- * with the length of the reference.
+ * were. Where it is empty nothing is written, and `place` may be out_len. Of the reference, only the
+ * bytes that come into the normal replacement need to be residues. The time grows with what is trimmed,
+ * rolled over and written, not with the length of the reference.
  *
  * Accepted: { 0, 0, kind, start, end, length }. Refused, in this order:
  *   1, value 0    the reference has over 1,000,000,000 bytes;
  *   1, value 1    the replacement has over 1,000,000 bytes;
  *   2, value 0    start is above end;
  *   3, value n    end is above n, the length of the reference;
- *   4, value i    replacement[i] is not a residue, and no byte before it is foreign;
- *   5, value i    byte i of the normal replacement is not a residue, and no byte before it is foreign;
+ *   4, value i    replacement[i] is foreign, the first such byte;
+ *   5, value i    byte i of the normal replacement is foreign, the first such byte;
  *   6, value l    the normal replacement has l bytes, and `out` has fewer from `place` on, or `place`
  *                 is past its end.
- * No `start`, `end` or `place` is too large to be refused so. A call with an `out` of 0 bytes and
- * place 0 learns the length that is needed: value, where it is refused under 6, and 0 where it is accepted.
+ * A call with an `out` of 0 bytes and place 0 learns the length that is needed: `value` where it is
+ * refused under 6, and 0 where it is accepted.
  *
  * With the reference `TCAGCAGCAGT`, start 4, end 4, the replacement `CAG`, place 0 and room for 12
  * bytes, the answer is { 0, 0, 2, 1, 10, 12 }, and `out` then holds
@@ -165,10 +162,9 @@ fv_form fv_normal_form(const uint8_t *reference, size_t reference_len, uint64_t 
  *   1, value 0    reference_length is over 1,000,000,000;
  *   2, value 0    start is above end;
  *   3, value n    end is above n, which is reference_length;
- *   7, value 32   the digest has not 32 bytes;
- *   7, value i    digest[i] is not a base64url character, and every byte before it is one;
+ *   7, value 32   the digest does not have 32 bytes;
+ *   7, value i    digest[i] is not a base64url character, the first such byte;
  *   6, value l    the text has l bytes, and `out` has fewer from `place` on, or `place` is past its end.
- * No number is too large to be refused so.
  *
  * With reference_length 11, start 1, end 10 and the digest of `TCAGCAGCAGT`, which is
  * `zR7HujP8jYfpROv-hBLZMHuR_5P4Zo0q`, the 132 bytes are (in one line)
@@ -198,7 +194,7 @@ fv_written fv_location_identifier(uint64_t reference_length, uint64_t start, uin
  * was given), from out[place] on. It is the serialized form of VRS 1.1.2, with no spaces:
  * {"location":"L","state":{"sequence":"X","type":"SequenceState"},"type":"Allele"}
  * where L is the digest of the normal interval's location text, and X the normal replacement. The
- * digest of the reference is taken as given: nothing compares it with the reference. The bytes of `out`
+ * digest of the reference is taken as given and not compared with it. The bytes of `out`
  * before and after the text stay as they were.
  *
  * Accepted: { 0, 0, length }. Refused, in this order:
@@ -206,12 +202,11 @@ fv_written fv_location_identifier(uint64_t reference_length, uint64_t start, uin
  *   1, value 1    the replacement has over 1,000,000 bytes;
  *   2, value 0    start is above end;
  *   3, value n    end is above n, the length of the reference;
- *   4, value i    replacement[i] is not a residue, and no byte before it is foreign;
- *   7, value 32   the digest has not 32 bytes;
- *   7, value i    digest[i] is not a base64url character, and every byte before it is one;
- *   5, value i    byte i of the normal replacement is not a residue, and no byte before it is foreign;
+ *   4, value i    replacement[i] is foreign, the first such byte;
+ *   7, value 32   the digest does not have 32 bytes;
+ *   7, value i    digest[i] is not a base64url character, the first such byte;
+ *   5, value i    byte i of the normal replacement is foreign, the first such byte;
  *   6, value l    the text has l bytes, and `out` has fewer from `place` on, or `place` is past its end.
- * No `start`, `end` or `place` is too large to be refused so.
  *
  * With the reference `TCAGCAGCAGT` and its digest `zR7HujP8jYfpROv-hBLZMHuR_5P4Zo0q`, start 4, end 4 and
  * the replacement `CAG`, the 122 bytes are (in one line)
@@ -254,12 +249,12 @@ typedef struct {
  * written.
  *
  * Accepted: { 0, 0, start, end, digest }. Refused:
- *   8, value l    any other text; its first l bytes begin some accepted text, and l + 1 do not (or
- *                 there are no more).
+ *   8, value l    any other text; l is the length of its longest prefix that begins an accepted text.
  *
  * The text of fv_location_text's example is answered { 0, 0, 1, 10, 72 }. With `"start":11` in the place of
- * `"start":1` it is refused { 8, 31, 0, 0, 0 }: behind the 31 bytes `{"interval":{"end":10,"start":1` a
- * second 1 would make the start larger than the end.
+ * `"start":1` it is refused { 8, 31, 0, 0, 0 }: after the 31 bytes `{"interval":{"end":10,"start":1` a
+ * second 1 would make the start larger than the end. Bytes after an accepted text are refused with the
+ * length of that text.
  */
 fv_location fv_read_location(const uint8_t *text, size_t text_len);
 
@@ -274,11 +269,10 @@ typedef struct {
 
 /*
  * Reads an allele text: the whole of `text`, laid out as fv_allele_text writes it. L is any 32 base64url
- * characters, and X has at most 1,001,000,000 letters from A to Z, or none. Nothing is written.
+ * characters, and X has 0 to 1,001,000,000 residues. Nothing is written.
  *
  * Accepted: { 0, 0, 13, 68, length }. Refused:
- *   8, value l    any other text; its first l bytes begin some accepted text, and l + 1 do not (or
- *                 there are no more).
+ *   8, value l    any other text; l is the length of its longest prefix that begins an accepted text.
  *
  * The text of fv_allele_text's example is answered { 0, 0, 13, 68, 12 }. Without its last byte it is
  * refused { 8, 121, 0, 0, 0 }, and so it is with another byte there.
@@ -301,13 +295,13 @@ fv_allele fv_read_allele(const uint8_t *text, size_t text_len);
  *
  * A record is five numbers, 20 bytes: start, end, the offset of the replacement in the pool, its length,
  * and the status, 1 active or 0 inactive. Record i, from 1, begins at 76 + 20 (i - 1). A journal entry is
- * the number that a change was about, 4 bytes. The pool has the replacements, one behind the other.
+ * the number that a change was about, 4 bytes. The pool has the replacements, one after the other.
  *
  * An image is well formed where its header is as above, no count is above its capacity, and the buffer
  * reaches to the end of the pool; where each record issued has start <= end <= the reference's length,
  * status 0 or 1, an offset that is the sum of the lengths before it, and residues only; where these
  * lengths together are the pool used; and where each journal entry counted is from 1 to the numbers
- * issued. Slots not issued, room not used and bytes behind the image may hold anything. Every call but
+ * issued. Records not issued, room not used and bytes after the image may hold anything. Every call but
  * fv_blank makes this test first, so that no image, however damaged, makes it fault.
  */
 
@@ -315,15 +309,14 @@ fv_allele fv_read_allele(const uint8_t *text, size_t text_len);
  * Makes a register without numbers at the front of `image`: for a reference of `reference_length` residues
  * that has this digest (32 base64url characters, without `ga4gh:SQ.` before them), with C `records`, J
  * `journal` and P `pool`. The 76 bytes of the header are written, over whatever stood there, a register
- * too; the bytes behind them stay as they were.
+ * too; the bytes after them stay as they were.
  *
  * Accepted: { 0, 0 }. Refused, in this order:
  *   1, value 0    reference_length is over 1,000,000,000;
- *   7, value 32   the digest has not 32 bytes;
- *   7, value i    digest[i] is not a base64url character, and every byte before it is one;
+ *   7, value 32   the digest does not have 32 bytes;
+ *   7, value i    digest[i] is not a base64url character, the first such byte;
  *   9, value 0    records or journal is over 10,000, or pool is over 10,000,000;
  *   9, value s    the image needs s bytes, 76 + 20 records + 4 journal + pool, and image_len is less.
- * No number is too large to be refused so.
  *
  * With reference_length 11, the digest of `TCAGCAGCAGT`, which is `zR7HujP8jYfpROv-hBLZMHuR_5P4Zo0q`, and the
  * capacities 2, 3 and 15, the journal begins at 116 and the pool at 128. 143 bytes are needed: with an
@@ -347,12 +340,12 @@ typedef struct {
  *   known   an active record is equal: the lowest such number is answered, and nothing is written;
  *   again   none is, but an inactive one: the lowest such number becomes active. Its status, the next
  *           journal entry and the journal count are written;
- *   new     none is equal: the next number is issued, and is active. Its record, its letters in the
+ *   new     none is equal: the next number is issued, and is active. Its record, its residues in the
  *           pool, the next journal entry and the three counts are written.
  * All other bytes of the image stay as they were.
  *
- * The digest is that of the reference. It is compared with the header's, and nothing compares it with the
- * reference. It must not be lent as `image + 44`, since that overlaps the image.
+ * The digest is that of the reference. It is compared with the header's and not with the reference. It
+ * must not be lent as `image + 44`, since that overlaps the image.
  *
  * Accepted: { 0, 0, answer, number }. Refused, in this order:
  *   10, value 0   the image is not well formed;
@@ -361,15 +354,14 @@ typedef struct {
  *   1, value 1    the replacement has over 1,000,000 bytes;
  *   2, value 0    start is above end;
  *   3, value n    end is above n, the length of the reference;
- *   4, value i    replacement[i] is not a residue, and no byte before it is foreign;
- *   5, value i    byte i of the normal replacement is not a residue, and no byte before it is foreign;
+ *   4, value i    replacement[i] is foreign, the first such byte;
+ *   5, value i    byte i of the normal replacement is foreign, the first such byte;
  *   12, value 0   the allele is unchanged: it makes the reference itself;
  * then, where it would be new,
  *   13, value C   all C records are taken;
- *   14, value P   the pool, of P letters, has fewer left than the normal replacement has;
+ *   14, value P   the pool, of P bytes, has fewer left than the normal replacement has;
  * and where it would be new or again,
  *   15, value J   all J journal entries are in use.
- * No `start` or `end` is too large to be refused so.
  *
  * On fv_blank's example, with the reference `TCAGCAGCAGT` and its digest, start 4, end 4 and `CAG` are
  * answered { 0, 0, 1, 1 }: new, number 1. Then start 1, end 2 and `CAGC`, which make the same sequence,
@@ -387,10 +379,9 @@ fv_entered fv_entry(uint8_t *image, size_t image_len, const uint8_t *digest, siz
  *   16, value k   number is 0, or above k, how many are issued;
  *   17, value i   number, which is i, is not active;
  *   15, value J   all J journal entries are in use.
- * No `number` is too large to be refused so.
  *
  * With number 1 of fv_entry's example the answer is { 0, 0 }; asked again it is { 17, 1 }, and with number 2,
- * which nobody was given, { 16, 1 }.
+ * which is not issued, { 16, 1 }.
  */
 fv_outcome fv_withdraw(uint8_t *image, size_t image_len, uint64_t number);
 
@@ -404,7 +395,7 @@ typedef struct {
 /*
  * Takes the latest change in the journal back: an active number becomes inactive, an inactive one active,
  * and the journal count is one less. These two numbers are written, and nothing is cleared: a number once
- * issued keeps its record and is never issued again. The next change uses the journal entry that is free.
+ * issued keeps its record and is never issued again. The next change uses the freed journal entry.
  *
  * Accepted: { 0, 0, number }. Refused, in this order:
  *   10, value 0   the image is not well formed;
@@ -416,8 +407,8 @@ typedef struct {
 fv_undone fv_undo(uint8_t *image, size_t image_len);
 
 /*
- * Makes all changes so far final: the journal count is written as 0, and no undo goes behind it. With a
- * journal count of 0 it is accepted as well, and changes no byte.
+ * Makes all changes so far final: the journal count is written as 0, and no later undo takes them back.
+ * With a journal count of 0 it is accepted as well, and changes no byte.
  *
  * Accepted: { 0, 0 }. Refused:
  *   10, value 0   the image is not well formed.
