@@ -10,12 +10,19 @@
  * for as long as the call runs. No two slices of one call may overlap. All memory stays the
  * caller's: no call keeps a pointer, and calls on different memory may run at the same time.
  *
- * Each answer begins with two numbers:
+ * Each answer but that of fv_running_begin begins with two numbers:
  *   refusal  0 where the call is accepted, else the number of the reason why it is refused;
  *   value    what that reason returns with it, and 0 where the call is accepted.
  * A call tests its reasons in the order in which it lists them, and answers the first that holds. A call
- * that is refused writes no byte. Any value may be given for a number: a start, an end, a place, a
- * length, a capacity. A residue is a byte from A to Z, and every other byte is foreign.
+ * that is refused writes no byte, and all that it answers after `value` is 0. Any value may be given for
+ * a number: a start, an end, a place, a length, a capacity.
+ *
+ * A call with an `out` writes from out[place] on. The bytes before and after what it writes stay as they
+ * were, and no zero byte is put at the end.
+ *
+ * A residue is a byte from A to Z, and every other byte is foreign. A digest is 32 base64url characters (A
+ * to Z, a to z, 0 to 9, - and _): the first 24 bytes of a SHA-512, without padding. Positions are interbase:
+ * 0 lies before the first residue of a reference, its length after the last.
  */
 #ifndef FEARNAVULT_H
 #define FEARNAVULT_H
@@ -33,7 +40,7 @@ typedef struct {
     uint64_t value;
 } fv_outcome;
 
-/* The answer of a call that writes a text: `length` is how many bytes it wrote, 0 where refused. */
+/* The answer of a call that writes a text: `length` is how many bytes it wrote. */
 typedef struct {
     uint64_t refusal;
     uint64_t value;
@@ -41,15 +48,13 @@ typedef struct {
 } fv_written;
 
 /*
- * Writes the identifier of a whole reference, from out[place] on: the 9 bytes `ga4gh:SQ.`, then the
- * 32 characters of its digest (the first 24 bytes of SHA-512 over the residues, in base64url without
- * padding). That is 41 bytes; the bytes of `out` before and after them stay as they were, and no
- * zero byte is put at the end. A reference may be empty.
+ * Writes the identifier of a whole reference, which may be empty: the 9 bytes `ga4gh:SQ.`, then the digest
+ * of its residues. That is 41 bytes.
  *
  * Accepted: { 0, 0, 41 }. Refused, in this order:
  *   1, value 0    the reference has over 1,000,000,000 bytes;
  *   4, value i    reference[i] is foreign, the first such byte;
- *   6, value 41   `out` has fewer than 41 bytes from `place` on, or `place` is past its end.
+ *   6, value 41   `out` has fewer bytes from `place` on, or `place` is past its end.
  *
  * With the reference `ACGT`, place 0 and room for 41 bytes, `out` then holds
  * ga4gh:SQ.aKF498dAxcJAqme6QYQ7EZ07-fiw8Kw2
@@ -90,19 +95,19 @@ fv_running fv_running_begin(void);
 fv_outcome fv_running_feed(fv_running *state, const uint8_t *part, size_t part_len);
 
 /*
- * Writes the identifier of all parts together, from out[place] on, as fv_sequence_identifier does for a
- * whole reference: 41 bytes. The state is only read, so that more parts may follow.
+ * Writes the identifier of all parts together, as fv_sequence_identifier does for a whole reference: 41
+ * bytes. The state is only read, so that more parts may follow.
  *
  * Accepted: { 0, 0, 41 }. Refused, in this order:
  *   1, value 0    state->total is over 1,000,000,000;
- *   6, value 41   `out` has fewer than 41 bytes from `place` on, or `place` is past its end.
+ *   6, value 41   `out` has fewer bytes from `place` on, or `place` is past its end.
  *
  * After the parts `AC` and `GT` it writes
  * ga4gh:SQ.aKF498dAxcJAqme6QYQ7EZ07-fiw8Kw2
  */
 fv_written fv_running_finish(const fv_running *state, uint8_t *out, size_t out_len, uint64_t place);
 
-/* A normal form. Where the call is refused, all that follows `value` is 0. */
+/* A normal form. */
 typedef struct {
     uint64_t refusal;
     uint64_t value;
@@ -113,21 +118,20 @@ typedef struct {
 } fv_form;
 
 /*
- * Answers the fully justified normal form of an allele, and writes its replacement from out[place] on.
+ * Answers the fully justified normal form of an allele, and writes its replacement.
  *
- * An allele puts a replacement in the place of the residues between two positions of a reference.
- * Positions are interbase: 0 lies before the first residue, reference_len after the last. The reference
- * may be empty, start and end may be equal (an insertion), and the replacement may be empty (a deletion).
+ * An allele puts a replacement in the place of the residues between two positions of a reference. The
+ * reference may be empty, start and end may be equal (an insertion), and the replacement may be empty (a
+ * deletion).
  *
- * The normal form depends on the altered sequence alone: what this has in common with the reference at
- * either end is left out, but an insertion or a deletion that might stand at several places of a repeat
- * covers them all. So two alleles that make the same sequence, other than the reference itself, have the
- * same normal form. An allele that changes nothing is answered as it was given, with kind 0.
+ * What the altered sequence has in common with the reference at either end is left out, but an insertion or
+ * a deletion that might stand at several places of a repeat covers them all. So two alleles that make the
+ * same sequence, other than the reference itself, have the same normal form. An allele that changes nothing
+ * is answered as it was given, with kind 0.
  *
- * The normal replacement has `length` bytes; the bytes of `out` before and after them stay as they
- * were. Where it is empty nothing is written, and `place` may be out_len. Of the reference, only the
- * bytes that come into the normal replacement need to be residues. The time grows with what is trimmed,
- * rolled over and written, not with the length of the reference.
+ * Where the normal replacement is empty, nothing is written, and `place` may be out_len. Of the reference,
+ * only the bytes that come into the normal replacement need to be residues. The time grows with what is
+ * trimmed, rolled over and written, not with the length of the reference.
  *
  * Accepted: { 0, 0, kind, start, end, length }. Refused, in this order:
  *   1, value 0    the reference has over 1,000,000,000 bytes;
@@ -150,13 +154,11 @@ fv_form fv_normal_form(const uint8_t *reference, size_t reference_len, uint64_t 
                        uint8_t *out, size_t out_len, uint64_t place);
 
 /*
- * Writes the text of a location, from out[place] on: the interval from start to end, as given, of the
- * sequence that has this digest and `reference_length` residues. It is the serialized form of
- * VRS 1.1.2, with no spaces:
+ * Writes the text of a location: the interval from start to end, as given, of the sequence that has this
+ * digest and `reference_length` residues. It is the serialized form of VRS 1.1.2, with no spaces:
  * {"interval":{"end":E,"start":T,"type":"SimpleInterval"},"sequence_id":"D","type":"SequenceLocation"}
- * where E stands for the end and T for the start, as decimals, and D is the digest: 32 base64url
- * characters (A to Z, a to z, 0 to 9, - and _), without `ga4gh:SQ.` before them. The bytes of `out` before
- * and after the text stay as they were.
+ * where E stands for the end and T for the start, as decimals, and D is the digest, without `ga4gh:SQ.`
+ * before it.
  *
  * Accepted: { 0, 0, length }. Refused, in this order:
  *   1, value 0    reference_length is over 1,000,000,000;
@@ -180,7 +182,7 @@ fv_written fv_location_text(uint64_t reference_length, uint64_t start, uint64_t 
  * which needs no room. That is 42 bytes.
  *
  * Accepted: { 0, 0, 42 }. Refused as fv_location_text is, but
- *   6, value 42   `out` has fewer than 42 bytes from `place` on, or `place` is past its end.
+ *   6, value 42   `out` has fewer bytes from `place` on, or `place` is past its end.
  *
  * For the same location it is
  * ga4gh:VSL.NERH7ClkNiblyxw1x18NLM8Y7sEdWeN7
@@ -191,11 +193,10 @@ fv_written fv_location_identifier(uint64_t reference_length, uint64_t start, uin
 
 /*
  * Writes the text of an allele's normal form (see fv_normal_form; an unchanged allele is written as it
- * was given), from out[place] on. It is the serialized form of VRS 1.1.2, with no spaces:
+ * was given). It is the serialized form of VRS 1.1.2, with no spaces:
  * {"location":"L","state":{"sequence":"X","type":"SequenceState"},"type":"Allele"}
- * where L is the digest of the normal interval's location text, and X the normal replacement. The
- * digest of the reference is taken as given and not compared with it. The bytes of `out`
- * before and after the text stay as they were.
+ * where L is the digest of the normal interval's location text, and X the normal replacement. The digest of
+ * the reference is taken as given and not compared with it.
  *
  * Accepted: { 0, 0, length }. Refused, in this order:
  *   1, value 0    the reference has over 1,000,000,000 bytes;
@@ -224,7 +225,7 @@ fv_written fv_allele_text(const uint8_t *reference, size_t reference_len, uint64
  * reference itself, have the same identifier.
  *
  * Accepted: { 0, 0, 41 }. Refused as fv_allele_text is, but
- *   6, value 41   `out` has fewer than 41 bytes from `place` on, or `place` is past its end.
+ *   6, value 41   `out` has fewer bytes from `place` on, or `place` is past its end.
  *
  * For the same allele it is
  * ga4gh:VA.AI9QWkPg6MybxSaPDP38hunMAsLzNpmS
@@ -234,7 +235,7 @@ fv_written fv_allele_identifier(const uint8_t *reference, size_t reference_len, 
                                 const uint8_t *digest, size_t digest_len,
                                 uint8_t *out, size_t out_len, uint64_t place);
 
-/* What a location text says. Where it is refused, all that follows `value` is 0. */
+/* What a location text says. */
 typedef struct {
     uint64_t refusal;
     uint64_t value;
@@ -258,7 +259,7 @@ typedef struct {
  */
 fv_location fv_read_location(const uint8_t *text, size_t text_len);
 
-/* Where an allele text has what it says. Where it is refused, all that follows `value` is 0. */
+/* Where an allele text has what it says. */
 typedef struct {
     uint64_t refusal;
     uint64_t value;
@@ -307,9 +308,8 @@ fv_allele fv_read_allele(const uint8_t *text, size_t text_len);
 
 /*
  * Makes a register without numbers at the front of `image`: for a reference of `reference_length` residues
- * that has this digest (32 base64url characters, without `ga4gh:SQ.` before them), with C `records`, J
- * `journal` and P `pool`. The 76 bytes of the header are written, over whatever stood there, a register
- * too; the bytes after them stay as they were.
+ * that has this digest (without `ga4gh:SQ.` before it), with C `records`, J `journal` and P `pool`. The 76
+ * bytes of the header are written, over whatever stood there, a register too, and no others.
  *
  * Accepted: { 0, 0 }. Refused, in this order:
  *   1, value 0    reference_length is over 1,000,000,000;
@@ -326,7 +326,7 @@ fv_outcome fv_blank(uint8_t *image, size_t image_len, uint64_t reference_length,
                     const uint8_t *digest, size_t digest_len,
                     uint64_t records, uint64_t journal, uint64_t pool);
 
-/* The answer of an entry. Where it is refused, all that follows `value` is 0. */
+/* The answer of an entry. */
 typedef struct {
     uint64_t refusal;
     uint64_t value;
@@ -385,7 +385,7 @@ fv_entered fv_entry(uint8_t *image, size_t image_len, const uint8_t *digest, siz
  */
 fv_outcome fv_withdraw(uint8_t *image, size_t image_len, uint64_t number);
 
-/* The answer of an undo. Where it is refused, `number` is 0. */
+/* The answer of an undo. */
 typedef struct {
     uint64_t refusal;
     uint64_t value;
