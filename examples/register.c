@@ -13,7 +13,7 @@
 
 enum { DIGEST = 32, IDENTIFIER = 41 };
 
-/* Room for 2 records, 3 journal entries and 15 letters. */
+/* Room for 2 records, 3 journal entries and 15 residues. */
 enum { RECORDS = 2, JOURNAL = 3, POOL = 15, IMAGE = 76 + 20 * RECORDS + 4 * JOURNAL + POOL };
 
 static const char reference[] = "TCAGCAGCAGT";
