@@ -54,7 +54,7 @@ typedef struct {
  * Accepted: { 0, 0, 41 }. Refused, in this order:
  *   1, value 0    the reference has over 1,000,000,000 bytes;
  *   4, value i    reference[i] is foreign, the first such byte;
- *   6, value 41   `out` has fewer bytes from `place` on, or `place` is past its end.
+ *   6, value 41   `out` has fewer bytes than that from `place` on, or `place` is past its end.
  *
  * With the reference `ACGT`, place 0 and room for 41 bytes, `out` then holds
  * ga4gh:SQ.aKF498dAxcJAqme6QYQ7EZ07-fiw8Kw2
@@ -100,7 +100,7 @@ fv_outcome fv_running_feed(fv_running *state, const uint8_t *part, size_t part_l
  *
  * Accepted: { 0, 0, 41 }. Refused, in this order:
  *   1, value 0    state->total is over 1,000,000,000;
- *   6, value 41   `out` has fewer bytes from `place` on, or `place` is past its end.
+ *   6, value 41   `out` has fewer bytes than that from `place` on, or `place` is past its end.
  *
  * After the parts `AC` and `GT` it writes
  * ga4gh:SQ.aKF498dAxcJAqme6QYQ7EZ07-fiw8Kw2
@@ -182,7 +182,7 @@ fv_written fv_location_text(uint64_t reference_length, uint64_t start, uint64_t 
  * which needs no room. That is 42 bytes.
  *
  * Accepted: { 0, 0, 42 }. Refused as fv_location_text is, but
- *   6, value 42   `out` has fewer bytes from `place` on, or `place` is past its end.
+ *   6, value 42   `out` has fewer bytes than that from `place` on, or `place` is past its end.
  *
  * For the same location it is
  * ga4gh:VSL.NERH7ClkNiblyxw1x18NLM8Y7sEdWeN7
@@ -225,7 +225,7 @@ fv_written fv_allele_text(const uint8_t *reference, size_t reference_len, uint64
  * reference itself, have the same identifier.
  *
  * Accepted: { 0, 0, 41 }. Refused as fv_allele_text is, but
- *   6, value 41   `out` has fewer bytes from `place` on, or `place` is past its end.
+ *   6, value 41   `out` has fewer bytes than that from `place` on, or `place` is past its end.
  *
  * For the same allele it is
  * ga4gh:VA.AI9QWkPg6MybxSaPDP38hunMAsLzNpmS
