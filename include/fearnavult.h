@@ -259,7 +259,7 @@ typedef struct {
  */
 fv_location fv_read_location(const uint8_t *text, size_t text_len);
 
-/* Where an allele text has what it says. */
+/* Where the parts of an allele text lie. */
 typedef struct {
     uint64_t refusal;
     uint64_t value;

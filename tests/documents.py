@@ -1,5 +1,5 @@
-"""Holds the documents to the tree: every file that they name is there, and every definition and law that
-docs/DEMANDS.md names is written somewhere.
+"""Holds the documents to the tree: every file that they name is there, and every definition, law and call that
+docs/DEMANDS.md and docs/CALLS.md name is written somewhere.
 """
 import re
 import sys
@@ -7,6 +7,7 @@ from glob import glob
 from pathlib import Path
 
 DOCUMENTS = ("README.md", *sorted(glob("docs/*.md")))
+QUOTING = ("docs/DEMANDS.md", "docs/CALLS.md")
 FILE = re.compile(r"[\w.*/-]+/[\w.*-]+\.(?:antt|rt|md|py|c|h|sh|txt|edit)\b")
 # Words that stand for a name.
 STANDS_FOR = re.compile(r"NAME|MODULE|FUNCTION|LABEL|PREFIX")
@@ -21,19 +22,24 @@ def files_missing(document):
             yield name
 
 
-def names_missing():
-    """The names that docs/DEMANDS.md quotes and that no source has, but for the beginnings of names."""
+def names_written():
+    """The words of all sources, and of what the programs print."""
     sources = (path for suffix in ("antt", "rt") for path in Path("crates").rglob(f"*.{suffix}"))
     printed = Path("crates").glob("*/stdout")
-    words = {word for path in (*sources, *printed) for word in re.findall(r"[\w-]+", path.read_text("utf-8"))}
-    quoted = re.findall(r"`([A-Za-z][\w:-]*)`", Path("docs/DEMANDS.md").read_text("utf-8"))
+    return {word for path in (*sources, *printed) for word in re.findall(r"[\w-]+", path.read_text("utf-8"))}
+
+
+def names_missing(document, words):
+    """The names that a document quotes and that are not among the words, but for the beginnings of names."""
+    quoted = re.findall(r"`([A-Za-z][\w:-]*)`", Path(document).read_text("utf-8"))
     parts = {part for name in quoted for part in name.split("::")}
     return sorted(part for part in parts - words if not part.endswith("-"))
 
 
 def main():
+    words = names_written()
     missing = [f"{document} names {name}" for document in DOCUMENTS for name in files_missing(document)]
-    missing += [f"docs/DEMANDS.md names {name}" for name in names_missing()]
+    missing += [f"{document} names {name}" for document in QUOTING for name in names_missing(document, words)]
     if missing:
         sys.exit("documents: FAILED: " + "; ".join(missing))
     print(f"documents: ok, {len(DOCUMENTS)} of them")
