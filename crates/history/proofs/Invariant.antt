@@ -3,7 +3,7 @@ use Prim.Native.Nat.{ℕ}
 use mathlib.Core.Path.{_≡_, refl, sym, _∙_, subst}
 use mathlib.Core.List.{List, [], _∷_}
 use Rattle.history.specs.Events.{Event, entry, withdrawal, undo, seal, refusal, new, again, known, added, removed, unsealed, sealed, standing}
-use Rattle.history.proofs.View.{View, Keeps, Moves}
+use Rattle.history.proofs.View.{View, KeepsOthers, Moves}
 use Rattle.history.proofs.Standing.{Stands, act-fresh, stands-changed, stands-undone, stands-sealed}
 use Rattle.history.proofs.Numbers.{Numbers, numbers-kept, numbers-new}
 
@@ -24,7 +24,7 @@ inv-empty v none count =
       stands = record { statuses = λ i live. absurd (none i live); valid = tt; count = count; journals = tt };
     }
 
-keeps-all : (v : View) → Keeps v v 0
+keeps-all : (v : View) → KeepsOthers v v 0
 keeps-all v =
     record { lives = λ j live. live; lived = λ j n live. live; sequences = λ j live. refl; statuses = λ j live n. refl; journals = λ k l. refl }
 

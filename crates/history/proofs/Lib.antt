@@ -1,28 +1,21 @@
+-- what a register shows, and how each event moves it
 pub mod View
 pub mod Equal
+-- what the numbers stand for, and the changes that stand
 pub mod Numbers
 pub mod Standing
 pub mod Replay
+-- what holds between a history and what a register shows, and demand 3 from it
 pub mod Invariant
 pub mod Told
-pub mod Passed
+-- what an image shows, and what an entry finds in it
 pub mod Proper
 pub mod Found
-pub mod Seen
-pub mod Spares
-pub mod Clear
-pub mod Read
-pub mod Journalling
-pub mod Counting
-pub mod Recording
-pub mod SeenStatus
-pub mod SeenNew
-pub mod SeenBlank
 pub mod Shows
-pub mod StayFormed
-pub mod IssuedFormed
-pub mod BlankFormed
-pub mod Demanded
+-- what each call comes to, and how it moves what its image shows
+pub mod Passed
 pub mod Steps
+-- demand 3 of an image, along every run, and document 01's example
+pub mod Demanded
 pub mod Reached
 pub mod Played

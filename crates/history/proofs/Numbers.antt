@@ -5,7 +5,7 @@ use mathlib.Core.Logic.{inl, inr, ⊎-elim}
 use mathlib.Core.List.{List, _∷_}
 use borrow.Author.Tests.{eq-eqb, ne-eqb}
 use Rattle.history.specs.Events.{Way, Event, entry, withdrawal, undo, seal, refusal, new, Occurs, meant}
-use Rattle.history.proofs.View.{View, Keeps, New}
+use Rattle.history.proofs.View.{View, KeepsOthers, New}
 use Rattle.history.proofs.Equal.{by-equal}
 
 pub record Numbers (h : List Event) (v : View) : Type 0 where
@@ -24,11 +24,11 @@ Stood v (undo i) = Unit
 Stood v seal = Unit
 Stood v refusal = Unit
 
-stood-on : {v w : View} {i : ℕ} → Keeps v w i → (j : ℕ) (t : List ℕ) → v .Live j × (v .sequence j ≡ t) → w .Live j × (w .sequence j ≡ t)
+stood-on : {v w : View} {i : ℕ} → KeepsOthers v w i → (j : ℕ) (t : List ℕ) → v .Live j × (v .sequence j ≡ t) → w .Live j × (w .sequence j ≡ t)
 stood-on keeps j t s = (keeps .lives j (s .0), keeps .sequences j (s .0) ∙ s .1)
 
 -- an event that issues no number
-module _ (h : List Event) (e : Event) (v w : View) (i : ℕ) (keeps : Keeps v w i) (same : w .Live i → v .Live i) where
+module _ (h : List Event) (e : Event) (v w : View) (i : ℕ) (keeps : KeepsOthers v w i) (same : w .Live i → v .Live i) where
   lived-all : (j : ℕ) → w .Live j → v .Live j
   lived-all j live = by-equal j i (λ e. subst (v .Live) (sym e) (same (subst (w .Live) e live))) (λ n. keeps .lived j n live)
 

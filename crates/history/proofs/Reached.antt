@@ -12,8 +12,8 @@ use Rattle.refusal.specs.Verdict.{verdict}
 use Rattle.changes.specs.Changes.{blanked}
 use Rattle.blank.specs.Calls.{Blanks, blankGrounds}
 use Rattle.blank.proofs.BlankTests.{blankable}
-use Rattle.history.proofs.SeenBlank.{blanked-seen}
-use Rattle.history.proofs.BlankFormed.{fresh-formed}
+use Rattle.effects.proofs.Blanked.{blanked-seen}
+use Rattle.effects.proofs.BlankedFormed.{fresh-formed}
 use Rattle.history.specs.Events.{Way, Event, entry, undo}
 use Rattle.history.specs.Runs.{Run}
 use Rattle.history.specs.Demand.{Live, Demand, EntryDemand, UndoDemand}

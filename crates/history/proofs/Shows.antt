@@ -9,8 +9,8 @@ use Rattle.normal.specs.Form.{Normal, altered, changedForm}
 use Rattle.image.specs.Fields.{issued, journalCount, statusOf, entryOf}
 use Rattle.history.specs.Demand.{Live, sequenceOf}
 use Rattle.history.proofs.Proper.{Has, Proper}
-use Rattle.history.proofs.Seen.{Kept, Stays, Restated, Journalled, Closed, Issues}
-use Rattle.history.proofs.View.{View, Keeps, Changes, Sealed}
+use Rattle.effects.proofs.Seen.{Kept, Stays, Restated, Journalled, Closed, Issues}
+use Rattle.history.proofs.View.{View, KeepsOthers, Changes, Sealed}
 
 abbrev pub shows : List ℕ → List ℕ → View
 shows r b = record { Live = Live b; sequence = sequenceOf r b; status = statusOf b; count = journalCount b; journal = entryOf b }
@@ -45,7 +45,7 @@ pub stays-proper : (r b c : List ℕ) → Stays b c → issued c ≡ issued b �
 stays-proper r b c s e p i l = let m = live-back b c e i l in kept-proper r b c i (s .kept i (m .from) (m .to)) (p i m)
 
 module _ (r b c : List ℕ) (i status : ℕ) where
-  pub restated-keeps : Restated b c i status → Keeps (shows r b) (shows r c) i
+  pub restated-keeps : Restated b c i status → KeepsOthers (shows r b) (shows r c) i
   restated-keeps s =
       record {
         lives = live-on b c (s .numbers);

@@ -8,7 +8,7 @@ use lib.Dec.{eqb}
 use lib.ListN.{length, drop}
 use borrow.Author.Tests.{eq-eqb, ne-eqb}
 use Rattle.history.specs.Events.{Change, added, removed, numberOf}
-use Rattle.history.proofs.View.{View, Keeps, Changes, Undone, Sealed}
+use Rattle.history.proofs.View.{View, KeepsOthers, Changes, Undone, Sealed}
 use Rattle.history.proofs.Equal.{by-equal}
 
 -- the status that a change gives its number
@@ -64,7 +64,7 @@ means-kept : (v w : View) (c : Change) → w .sequence (numberOf c) ≡ v .seque
 means-kept v w (added i t) e m = e ∙ m
 means-kept v w (removed i) e m = m
 
-module _ {v w : View} (i : ℕ) (keeps : Keeps v w i) where
+module _ {v w : View} (i : ℕ) (keeps : KeepsOthers v w i) where
   status-kept : {us ss : List Change} → Stands us ss v → (j : ℕ) → (j ≡ i → ⊥) → w .Live j → w .status j ≡ act (us ++ ss) j
   status-kept s j n live =
       let before : v .Live j = keeps .lived j n live in keeps .statuses j before n ∙ s .statuses j before

@@ -36,11 +36,11 @@ use Rattle.history.specs.Demand.{Live, sequenceOf}
 use Rattle.history.proofs.Found.{Match, Finding, active-as, withdrawn-as, nowhere, finding}
 use Rattle.history.proofs.Passed.{done-or-left, Withdrawable, withdrawable, Undoable, undoable, sealable, Enterable, enterable}
 use Rattle.history.proofs.Proper.{Proper, has-stands, has-proper, proper-has}
-use Rattle.history.proofs.Seen.{Journalled}
-use Rattle.history.proofs.SeenNew.{numbered-seen}
-use Rattle.history.proofs.SeenStatus.{withdrawn-seen, reentered-seen, undone-seen, sealed-seen}
-use Rattle.history.proofs.IssuedFormed.{issues-formed}
-use Rattle.history.proofs.StayFormed.{journalled-formed, taken-back-formed, closed-formed}
+use Rattle.effects.proofs.Seen.{Journalled}
+use Rattle.effects.proofs.Numbered.{numbered-seen}
+use Rattle.effects.proofs.Marked.{withdrawn-seen, reentered-seen, undone-seen, sealed-seen}
+use Rattle.effects.proofs.NumberedFormed.{issues-formed}
+use Rattle.effects.proofs.StayFormed.{journalled-formed, taken-back-formed, closed-formed}
 use Rattle.history.proofs.Shows.{shows, stays-proper, kept-proper, restated-keeps, journalled-changes, closed-sealed, issues-cases, issues-changes, issues-has}
 use Rattle.history.proofs.View.{Moves}
 

@@ -15,7 +15,7 @@ pub record View : Type 1 where
   pub journal : ℕ → ℕ
 
 -- all but the number i is as it was
-pub record Keeps (v w : View) (i : ℕ) : Type 0 where
+pub record KeepsOthers (v w : View) (i : ℕ) : Type 0 where
   pub lives : (j : ℕ) → v .Live j → w .Live j
   pub lived : (j : ℕ) → (j ≡ i → ⊥) → w .Live j → v .Live j
   pub sequences : (j : ℕ) → v .Live j → w .sequence j ≡ v .sequence j
@@ -24,7 +24,7 @@ pub record Keeps (v w : View) (i : ℕ) : Type 0 where
 
 -- the number i gets a status and is journalled
 pub record Changes (v w : View) (i : ℕ) (status : ℕ) : Type 0 where
-  pub keeps : Keeps v w i
+  pub keeps : KeepsOthers v w i
   pub lives : w .Live i
   pub now : w .status i ≡ status
   pub count : w .count ≡ suc (v .count)
@@ -62,13 +62,13 @@ pub record Undone (v w : View) (i : ℕ) : Type 1 where
   pub last : v .journal (w .count) ≡ i
   pub live : v .Live i
   pub turned : w .status i ≡ 1 - v .status i
-  pub keeps : Keeps v w i
+  pub keeps : KeepsOthers v w i
 
 -- a seal empties the journal; no number is 0, so all of them are as they were
 pub record Sealed (v w : View) : Type 1 where
   pub count : w .count ≡ 0
   pub nought : w .Live 0 → ⊥
-  pub keeps : Keeps v w 0
+  pub keeps : KeepsOthers v w 0
 
 abbrev pub Moves : View → Event → View → Type 1
 Moves v (entry new i t) w = New v w i t

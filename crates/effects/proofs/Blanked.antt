@@ -12,7 +12,7 @@ use Rattle.image.specs.Numbers.{number, numbers}
 use Rattle.image.specs.Fields.{headerSize, countLimit, poolLimit, journalPlace, poolPlace, imageSize, sequenceDigest, headerOf}
 use Rattle.image.proofs.Patched.{length-numbers, number-laid, number-first, number-numbers}
 use Rattle.changes.specs.Changes.{blanked}
-use Rattle.history.proofs.Seen.{Fresh}
+use Rattle.effects.proofs.Seen.{Fresh}
 
 -- the numbers of the header
 abbrev fields : ℕ → ℕ → ℕ → ℕ → List ℕ

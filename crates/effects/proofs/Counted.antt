@@ -11,8 +11,8 @@ use Rattle.image.specs.Header.{Header}
 use Rattle.image.proofs.Numbers.{number-put}
 use Rattle.image.proofs.Spared.{Spared, spared-put, spared-on, number-aside}
 use Rattle.changes.specs.Changes.{counted}
-use Rattle.history.proofs.Spares.{Spares, spares-put, spares-on}
-use Rattle.history.proofs.Clear.{clear-issued, clear-used}
+use Rattle.effects.proofs.Spares.{Spares, spares-put, spares-on}
+use Rattle.effects.proofs.Clear.{clear-issued, clear-used}
 
 module _ (b : List ℕ) (h : Header b) (i : ℕ) (c : List ℕ) (long : length c ≡ length b) (n : ℕ) where
   abbrev more : List ℕ

@@ -14,7 +14,7 @@ use Rattle.image.specs.Formed.{lengths, wellFormed}
 use Rattle.image.specs.Header.{Header}
 use Rattle.image.proofs.Lengths.{lengths-same}
 use Rattle.image.proofs.WellFormed.{FormedRecord, FormedEntry, Formed, formed, well-formed}
-use Rattle.history.proofs.Seen.{Stays, Restated, Journalled, TakenBack, Closed}
+use Rattle.effects.proofs.Seen.{Stays, Restated, Journalled, TakenBack, Closed}
 
 module _ (b c : List ℕ) (f : Formed b) (s : Stays b c) where
   pub lengths-stay : (k : ℕ) → k ≤ issued b → lengths c k ≡ lengths b k

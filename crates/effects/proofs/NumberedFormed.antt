@@ -13,8 +13,8 @@ use Rattle.normal.specs.Form.{Normal}
 use Rattle.image.specs.Fields.{recordCapacity, issued, journalCapacity, journalCount, poolCapacity, poolUsed, referenceLength}
 use Rattle.image.specs.Formed.{lengths, wellFormed}
 use Rattle.image.proofs.WellFormed.{FormedRecord, formed}
-use Rattle.history.proofs.Seen.{Issues}
-use Rattle.history.proofs.StayFormed.{lengths-stay, record-stays, header-stays, entries-next, stay-formed}
+use Rattle.effects.proofs.Seen.{Issues}
+use Rattle.effects.proofs.StayFormed.{lengths-stay, record-stays, header-stays, entries-next, stay-formed}
 
 module _ (b c : List ℕ) (w : wellFormed b ≡ true) (f : Normal) (r : Issues b c f) where
   lengths-before : lengths c (issued b) ≡ poolUsed b

@@ -13,7 +13,7 @@ use Rattle.image.specs.Fields.{headerSize, recordSize, entrySize, recordCapacit
 use Rattle.image.specs.Header.{Header}
 use Rattle.image.proofs.Patched.{record-header, record-order, record-apart, record-journal}
 use Rattle.image.proofs.Spared.{Aside}
-use Rattle.history.proofs.Spares.{Unwritten, edition-on, records-on, journal-on, pool-on, record-of, status-of, entries, letters, Clear}
+use Rattle.effects.proofs.Spares.{Unwritten, edition-on, records-on, journal-on, pool-on, record-of, status-of, entries, letters, Clear}
 
 module _ (b : List ℕ) (h : Header b) (i : ℕ) where
   pub record-end : (j : ℕ) → 1 ≤ j → j ≤ issued b → recordAt j + recordSize ≤ journalAt b

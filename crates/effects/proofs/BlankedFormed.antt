@@ -11,7 +11,7 @@ use Rattle.image.specs.Fields.{countLimit, poolLimit, poolPlace, issued, poolUs
 use Rattle.image.specs.Formed.{lengths, wellFormed}
 use Rattle.image.specs.Header.{Header}
 use Rattle.image.proofs.WellFormed.{Formed, well-formed}
-use Rattle.history.proofs.Seen.{Fresh}
+use Rattle.effects.proofs.Seen.{Fresh}
 
 module _ (room n : ℕ) (d : List ℕ) (r j p : ℕ) (c : List ℕ) (f : Fresh room n d r j p c) where
   blank-header : n ≤ referenceLimit → r ≤ countLimit → j ≤ countLimit → p ≤ poolLimit → poolPlace r j + p ≤ room → Header c

@@ -12,11 +12,11 @@ use Rattle.image.proofs.Numbers.{number-put}
 use Rattle.image.proofs.Patched.{record-header}
 use Rattle.image.proofs.Spared.{number-aside}
 use Rattle.changes.specs.Changes.{marked, journalled, withdrawn, reentered, latest, undone, sealed}
-use Rattle.history.proofs.Seen.{Restated, Journalled, TakenBack, Closed}
-use Rattle.history.proofs.Spares.{Spares, spares-put, spares-on}
-use Rattle.history.proofs.Clear.{record-end, clear-count, clear-status}
-use Rattle.history.proofs.Read.{Inside, read-stays, read-status, read-entry-at}
-use Rattle.history.proofs.Journalling.{journalled-spares, journalled-number, journalled-count, journalled-entry}
+use Rattle.effects.proofs.Seen.{Restated, Journalled, TakenBack, Closed}
+use Rattle.effects.proofs.Spares.{Spares, spares-put, spares-on}
+use Rattle.effects.proofs.Clear.{record-end, clear-count, clear-status}
+use Rattle.effects.proofs.Read.{Inside, read-stays, read-status, read-entry-at}
+use Rattle.effects.proofs.Journalled.{journalled-spares, journalled-number, journalled-count, journalled-entry}
 
 module _ (b : List ℕ) (h : Header b) (w : Inside b) where
   module _ (i : ℕ) (o : 1 ≤ i) (g : i ≤ issued b) (v : ℕ) (small : v ≤ 1) where

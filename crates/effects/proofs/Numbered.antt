@@ -14,12 +14,12 @@ use Rattle.image.specs.Header.{Header}
 use Rattle.image.proofs.Patched.{record-header, record-journal}
 use Rattle.image.proofs.Spared.{Spared, Aside, spared-on, spared-number}
 use Rattle.changes.specs.Changes.{counted, numbered}
-use Rattle.history.proofs.Seen.{Stays, Issues}
-use Rattle.history.proofs.Spares.{Spares, spares-on}
-use Rattle.history.proofs.Read.{Inside, read-stays, read-status, read-entry-at}
-use Rattle.history.proofs.Recording.{laid, stored, stored-spares, stored-number, stored-letters}
-use Rattle.history.proofs.Counting.{counted-spares, counted-spared, counted-issued, counted-used}
-use Rattle.history.proofs.Journalling.{nextEntry, journalled-spares, journalled-spared, journalled-number, journalled-count, journalled-entry}
+use Rattle.effects.proofs.Seen.{Stays, Issues}
+use Rattle.effects.proofs.Spares.{Spares, spares-on}
+use Rattle.effects.proofs.Read.{Inside, read-stays, read-status, read-entry-at}
+use Rattle.effects.proofs.Stored.{laid, stored, stored-spares, stored-number, stored-letters}
+use Rattle.effects.proofs.Counted.{counted-spares, counted-spared, counted-issued, counted-used}
+use Rattle.effects.proofs.Journalled.{nextEntry, journalled-spares, journalled-spared, journalled-number, journalled-count, journalled-entry}
 
 module _ (b : List ℕ) (h : Header b) (f : Normal)
     (record-room : issued b < recordCapacity b)

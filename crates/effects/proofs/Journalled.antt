@@ -11,8 +11,8 @@ use Rattle.image.specs.Header.{Header}
 use Rattle.image.proofs.Numbers.{number-put}
 use Rattle.image.proofs.Spared.{Spared, Aside, spared-put, spared-on, spared-number, number-aside}
 use Rattle.changes.specs.Changes.{journalled}
-use Rattle.history.proofs.Spares.{Spares, spares-put, spares-on}
-use Rattle.history.proofs.Clear.{clear-count, clear-entry}
+use Rattle.effects.proofs.Spares.{Spares, spares-put, spares-on}
+use Rattle.effects.proofs.Clear.{clear-count, clear-entry}
 
 abbrev pub nextEntry : List ℕ → ℕ
 nextEntry b = entryAt b (journalCount b)

@@ -14,8 +14,8 @@ use Rattle.image.specs.Header.{Header}
 use Rattle.image.proofs.Patched.{length-numbers, number-laid, number-numbers, record-journal}
 use Rattle.image.proofs.Spared.{number-beside}
 use Rattle.changes.specs.Changes.{recorded, pooled}
-use Rattle.history.proofs.Spares.{Spares, spares-over, spares-on}
-use Rattle.history.proofs.Clear.{clear-record, clear-letters}
+use Rattle.effects.proofs.Spares.{Spares, spares-over, spares-on}
+use Rattle.effects.proofs.Clear.{clear-record, clear-letters}
 
 -- the numbers of the next record
 abbrev pub laid : List ℕ → Normal → List ℕ

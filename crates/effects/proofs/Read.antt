@@ -7,8 +7,8 @@ use Rattle.stretch.specs.Part.{part}
 use Rattle.image.specs.Numbers.{number}
 use Rattle.image.specs.Fields.{headerSize, journalAt, issued, journalCount, poolUsed, poolAt, recordAt, statusAt, offsetOf, lengthOf, statusOf, replacementOf, entryAt, entryOf, entrySize}
 use Rattle.image.proofs.Spared.{spared-number}
-use Rattle.history.proofs.Seen.{Frame, Kept, Stays}
-use Rattle.history.proofs.Spares.{Unwritten, edition-on, records-on, journal-on, pool-on, record-of, status-of, entries, letters, Spares}
+use Rattle.effects.proofs.Seen.{Frame, Kept, Stays}
+use Rattle.effects.proofs.Spares.{Unwritten, edition-on, records-on, journal-on, pool-on, record-of, status-of, entries, letters, Spares}
 
 -- the replacements lie within the letters of the pool
 abbrev pub Inside : List ℕ → Type 0
