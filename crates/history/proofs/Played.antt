@@ -19,7 +19,7 @@ use Rattle.changes.specs.Changes.{blanked, journalled, marked, withdrawn, reent
 use Rattle.entering.specs.Calls.{imageGrounds, changeGrounds, entryGrounds, Enters}
 use Rattle.blank.specs.Calls.{blankGrounds}
 use Rattle.register.specs.Calls.{withdrawalGrounds, Withdraws, undoGrounds, Undoes, Seals}
-use Rattle.history.specs.Runs.{Run, enters, withdraws, undoes, seals}
+use Rattle.history.specs.Runs.{Run, no-calls, _then_, enters, withdraws, undoes, seals}
 use Rattle.history.specs.Example.{Played, reference, digest, events, blank, one, oneUndone, two, oneAgain, oneWithdrawn, closed}
 
 pub played : Played
@@ -40,39 +40,12 @@ played =
 -- so each kind of call is accepted in some run from a blank image
 pub played-run : Run reference blank events closed
 played-run =
-    record {
-      image = oneWithdrawn;
-      call = seals Accepted (played .sealed-all) refl;
-      before =
-          record {
-            image = oneAgain;
-            call = withdraws 1 Accepted (played .withdrawn-1) refl;
-            before =
-                record {
-                  image = oneAgain;
-                  call = enters digest 1 5 _ (Known 2) (played .case-5) refl;
-                  before =
-                      record {
-                        image = oneAgain;
-                        call = enters digest 3 5 _ _ (played .case-6) refl;
-                        before =
-                            record {
-                              image = two;
-                              call = enters digest 1 2 _ (Again 1) (played .case-2) refl;
-                              before =
-                                  record {
-                                    image = oneUndone;
-                                    call = enters digest 2 3 _ (New 2) (played .case-4) refl;
-                                    before =
-                                        record {
-                                          image = one;
-                                          call = undoes (Number 1) (played .undone-1) refl;
-                                          before =
-                                              record { image = blank; call = enters digest 4 4 _ (New 1) (played .case-1) refl; before = refl };
-                                        };
-                                  };
-                            };
-                      };
-                };
-          };
-    }
+    no-calls
+    then enters digest 4 4 _ (New 1) (played .case-1) refl
+    then undoes (Number 1) (played .undone-1) refl
+    then enters digest 2 3 _ (New 2) (played .case-4) refl
+    then enters digest 1 2 _ (Again 1) (played .case-2) refl
+    then enters digest 3 5 _ _ (played .case-6) refl
+    then enters digest 1 5 _ (Known 2) (played .case-5) refl
+    then withdraws 1 Accepted (played .withdrawn-1) refl
+    then seals Accepted (played .sealed-all) refl

@@ -1,7 +1,7 @@
--- Demand 3: every run from a blank image, whatever calls it is made of, and any run from a history and an image that agree.
+-- Demand 3: along every run from a history and an image that agree, and so from a blank image.
 use Prim.Native.Nat.{ℕ}
 use native.Mathlib.Omega.{arith}
-use mathlib.Core.Path.{_≡_, sym, subst}
+use mathlib.Core.Path.{_≡_}
 use mathlib.Core.Bool.{true}
 use mathlib.Core.List.{List, [], _∷_, _++_, append-nil}
 use lib.ListN.{length}
@@ -15,11 +15,11 @@ use Rattle.blank.proofs.BlankTests.{blankable}
 use Rattle.effects.proofs.Blanked.{blanked-seen}
 use Rattle.effects.proofs.BlankedFormed.{fresh-formed}
 use Rattle.history.specs.Events.{Way, Event, entry, undo}
-use Rattle.history.specs.Runs.{Run}
+use Rattle.history.specs.Runs.{Call, Run, no-calls, _then_}
 use Rattle.history.specs.Demand.{Live, Demand, EntryDemand, UndoDemand}
 use Rattle.history.proofs.Invariant.{Inv, inv-empty, inv-moved}
 use Rattle.history.proofs.Shows.{shows}
-use Rattle.history.proofs.Steps.{State, step}
+use Rattle.history.proofs.Steps.{State, Step, step}
 use Rattle.history.proofs.Demanded.{demanded, entry-demanded, undo-demanded}
 
 -- a history and an image that agree
@@ -27,51 +27,71 @@ pub record Agree (r : List ℕ) (h : List Event) (b : List ℕ) : Type 0 where
   pub state : State r b
   pub inv : Inv h (shows r b)
 
--- and stay so
-pub agree-on : (r b₀ : List ℕ) (h₀ : List Event) → Agree r h₀ b₀ → (h : List Event) (b : List ℕ) → Run r b₀ h b → Agree r (h ++ h₀) b
-agree-on r b₀ h₀ a [] b p = subst (Agree r h₀) (sym p) a
-agree-on r b₀ h₀ a (e ∷ h) b p =
-    let before = agree-on r b₀ h₀ a h (p .image) (p .before) in
-    let s = step r (p .image) (before .state) e b (p .call) in
-    record { state = s .state; inv = inv-moved (h ++ h₀) e (shows r (p .image)) (shows r b) (before .inv) (s .moves) }
+module _ {r b left : List ℕ} {h : List Event} {e : Event} (a : Agree r h b) (call : Call r b e left) where
+  called : Step r b e left
+  called = step r b (a .state) e left call
 
--- a blank image agrees with the empty history, whatever the reference
-module _ (r b : List ℕ) (n : ℕ) (digest : List ℕ) (records journal pool : ℕ) where
-  blank-agrees : (left : List ℕ) → Blanks b n digest records journal pool Accepted left → Agree r [] left
-  blank-agrees left p =
-      let v = outcome-accepted (verdict (blankGrounds (length b) n digest records journal pool)) (p .answers) in
-      let k = blankable (length b) n digest records journal pool v in
-      let c = blanked b n digest records journal pool in
-      let s = blanked-seen b n digest records journal pool (k .long) (k .records-limit) (k .journal-limit) (k .pool-limit) (k .reference) (k .fits) in
-      let none : (i : ℕ) → Live c i → ⊥ = λ i l. omega (arith, l .from, l .to, s .numbers) in
-      let e : left ≡ c = rw v at (p .leaves) in
-      rw e (record {
-        state = record {
-          formed = fresh-formed (length b) n digest records journal pool c s (k .reference) (k .records-limit) (k .journal-limit) (k .pool-limit) (k .characters) (k .fits);
-          proper = λ i l. absurd (none i l);
-        };
-        inv = inv-empty (shows r c) none (s .count);
-      })
+  agree-then : Agree r (e ∷ h) left
+  agree-then =
+      record { state = called .state; inv = inv-moved h e (shows r b) (shows r left) (a .inv) (called .moves) }
 
-  module _ (blank : List ℕ) (p : Blanks b n digest records journal pool Accepted blank) (h : List Event) (left : List ℕ) where
-    agrees : Run r blank h left → Agree r h left
-    agrees run = subst (λ (k : List Event). Agree r k left) (append-nil h) (agree-on r blank [] (blank-agrees blank p) h left run)
+-- and stay so along every run
+pub agree-on : {r b₀ b : List ℕ} {h₀ h : List Event} → Agree r h₀ b₀ → Run r b₀ h b → Agree r (h ++ h₀) b
+agree-on a no-calls = a
+agree-on a (run then call) = agree-then (agree-on a run) call
 
-    -- every image that calls lead to from a blank one is well formed
-    pub reached-formed : Run r blank h left → wellFormed left ≡ true
-    reached-formed run = agrees run .state .formed
+module _ {r b₀ b : List ℕ} {h₀ h : List Event} (a : Agree r h₀ b₀) where
+  -- a run leads to well-formed images
+  pub reached-formed : Run r b₀ h b → wellFormed b ≡ true
+  reached-formed run = agree-on a run .state .formed
 
-    -- and keeps demand 3
-    pub reached : Run r blank h left → Demand r h left
-    reached run = demanded r left h (agrees run .inv)
+  -- that keep demand 3
+  pub reached : Run r b₀ h b → Demand r (h ++ h₀) b
+  reached run = demanded r b (h ++ h₀) (agree-on a run .inv)
 
-  module _ (blank : List ℕ) (p : Blanks b n digest records journal pool Accepted blank) (h : List Event) (left : List ℕ) (i : ℕ) where
-    pub reached-entry : (way : Way) (t : List ℕ) → Run r blank (entry way i t ∷ h) left → EntryDemand r h left way i t
-    reached-entry way t run =
-        let before = agrees blank p h (run .image) (run .before) in
-        entry-demanded r left h (shows r (run .image)) (before .inv) i way t (step r (run .image) (before .state) (entry way i t) left (run .call) .moves)
+  -- of its last call: an entry
+  pub reached-entry : {way : Way} {i : ℕ} {t : List ℕ} → Run r b₀ (entry way i t ∷ h) b → EntryDemand r (h ++ h₀) b way i t
+  reached-entry (run then call) =
+      let before = agree-on a run in
+      entry-demanded r b (h ++ h₀) _ (before .inv) _ _ _ (called before call .moves)
 
-    pub reached-undo : Run r blank (undo i ∷ h) left → UndoDemand h i
-    reached-undo run =
-        let before = agrees blank p h (run .image) (run .before) in
-        undo-demanded r left h (shows r (run .image)) (before .inv) i (step r (run .image) (before .state) (undo i) left (run .call) .moves)
+  -- an undo
+  pub reached-undo : {i : ℕ} → Run r b₀ (undo i ∷ h) b → UndoDemand (h ++ h₀) i
+  reached-undo (run then call) =
+      let before = agree-on a run in
+      undo-demanded r b (h ++ h₀) _ (before .inv) _ (called before call .moves)
+
+-- from a blank image, whatever the reference
+module _ (b : List ℕ) (n : ℕ) (digest : List ℕ) (records journal pool : ℕ) (blank : List ℕ)
+    (p : Blanks b n digest records journal pool Accepted blank) (r : List ℕ)
+  where
+    -- which agrees with the empty history
+    pub blank-agrees : Agree r [] blank
+    blank-agrees =
+        let v = outcome-accepted (verdict (blankGrounds (length b) n digest records journal pool)) (p .answers) in
+        let k = blankable (length b) n digest records journal pool v in
+        let c = blanked b n digest records journal pool in
+        let s = blanked-seen b n digest records journal pool k in
+        let none : (i : ℕ) → Live c i → ⊥ = λ i l. omega (arith, l .from, l .to, s .numbers) in
+        let e : blank ≡ c = rw v at (p .leaves) in
+        rw e (record {
+          state = record {
+            formed = fresh-formed (length b) n digest records journal pool k c s;
+            proper = λ i l. absurd (none i l);
+          };
+          inv = inv-empty (shows r c) none (s .count);
+        })
+
+    module _ (h : List Event) (left : List ℕ) where
+      pub from-blank-formed : Run r blank h left → wellFormed left ≡ true
+      from-blank-formed = reached-formed blank-agrees
+
+      pub from-blank : Run r blank h left → Demand r h left
+      from-blank run = rw (append-nil h) at (reached blank-agrees run)
+
+      pub from-blank-entry : (way : Way) (i : ℕ) (t : List ℕ) → Run r blank (entry way i t ∷ h) left
+          → EntryDemand r h left way i t
+      from-blank-entry way i t run = rw (append-nil h) at (reached-entry blank-agrees run)
+
+      pub from-blank-undo : (i : ℕ) → Run r blank (undo i ∷ h) left → UndoDemand h i
+      from-blank-undo i run = rw (append-nil h) at (reached-undo blank-agrees run)

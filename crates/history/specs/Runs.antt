@@ -32,17 +32,14 @@ outcomeEvent e (Refused r) = refusal
 pub data Call (r b : List ℕ) (e : Event) (left : List ℕ) : Type 0 where
   enters : (digest : List ℕ) (start end : ℕ) (x : List ℕ) (answer : Entered)
       → Enters b digest r start end x answer left → e ≡ entryEvent (altered r start end x) answer → Call r b e left
-  withdraws : (i : ℕ) (answer : Outcome) → Withdraws b i answer left → e ≡ outcomeEvent (withdrawal i) answer → Call r b e left
+  withdraws : (i : ℕ) (answer : Outcome)
+      → Withdraws b i answer left → e ≡ outcomeEvent (withdrawal i) answer → Call r b e left
   undoes : (answer : Undone) → Undoes b answer left → e ≡ undoEvent answer → Call r b e left
   seals : (answer : Outcome) → Seals b answer left → e ≡ outcomeEvent seal answer → Call r b e left
 
--- a call behind what came before it
-pub record Then (Before : List ℕ → Type 0) (r : List ℕ) (e : Event) (left : List ℕ) : Type 0 where
-  pub image : List ℕ
-  pub before : Before image
-  pub call : Call r image e left
-
 -- calls that lead from an image b to another, and their history, the latest first
-abbrev pub Run : List ℕ → List ℕ → List Event → List ℕ → Type 0
-Run r b [] left = left ≡ b
-Run r b (e ∷ h) left = Then (Run r b h) r e left
+infixl 20 _then_
+pub data Run (r b : List ℕ) : List Event → List ℕ → Type 0 where
+  no-calls : Run r b [] b
+  _then_ : {h : List Event} {e : Event} {image left : List ℕ}
+      → Run r b h image → Call r image e left → Run r b (e ∷ h) left
