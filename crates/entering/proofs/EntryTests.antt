@@ -21,12 +21,11 @@ use Rattle.forming.specs.declared.Located.the-variants.{Accepted as Found, Refu
 use Rattle.forming.specs.Calls.{formGrounds, locatedClean}
 use Rattle.forming.proofs.Answers.{told-accepted, told-refused, clean-accepted, clean-refused, clean-allele}
 use Rattle.image.specs.Formed.{wellFormed}
-use Rattle.refusal.specs.Keeps.{Keeps}
 use Rattle.refusal.proofs.Keeps.{keeps-refused, keeps-as}
 use Rattle.numbering.specs.declared.Entered.{Entered}
 use Rattle.numbering.specs.declared.Entered.the-variants.{Refused as Unentered}
-use Rattle.numbering.specs.Found.{found, entered}
-use Rattle.numbering.specs.Calls.{roomGrounds, EntersForm}
+use Rattle.numbering.specs.Found.{found}
+use Rattle.numbering.specs.Calls.{roomGrounds, EntersAs, EntersForm}
 use Rattle.entering.specs.Inner.{unchanged, imageAnswer, changeAnswer, EntersAllele}
 use Rattle.entering.specs.Calls.{imageGrounds, changeGrounds, entryGrounds, Enters}
 
@@ -79,7 +78,7 @@ module _ (r : List ℕ) (start end : ℕ) (x : List ℕ) where
         let f = normal r start end x in
         keeps-as _ _ _ _ _ (verdict (roomGrounds b f (found b f))) _ _ (verdict-then (changeGrounds r start end x)
         (roomGrounds b f (found b f)) (told .0))
-        (subst (λ (g : Normal). Keeps Unentered (verdict (roomGrounds b g (found b g))) (found b g) b (entered b g (found b g)) answer left) form p)
+        (subst (λ (g : Normal). EntersAs b g (found b g) answer left) form p)
 
   pub enters-no-allele : (b : List ℕ) (why : Refusal) → Unfound why ≡ changeAnswer r start end x → EntersAllele b r start end x (Unentered why) b
   unfolding EntersAllele

@@ -9,7 +9,7 @@ use Rattle.refusal.specs.Keeps.{Keeps}
 use Rattle.changes.specs.Grounds.{notWellFormed, otherDigest, otherLength}
 use Rattle.numbering.specs.declared.Entered.{Entered}
 use Rattle.numbering.specs.declared.Entered.the-variants.{Refused}
-use Rattle.numbering.specs.Found.{found, entered}
+use Rattle.numbering.specs.Found.{found, answerOf, entered}
 use Rattle.numbering.specs.Calls.{roomGrounds}
 
 -- the image, and that it is of this digest and reference: 10, 11
@@ -33,5 +33,5 @@ entryGrounds b digest r start end x =
 -- what `entry` promises
 unfoldable pub Enters : List ℕ → List ℕ → List ℕ → ℕ → ℕ → List ℕ → Entered → List ℕ → Type 0
 Enters b digest r start end x =
-    Keeps Refused (verdict (entryGrounds b digest r start end x)) (found b (normal r start end x)) b
-    (entered b (normal r start end x) (found b (normal r start end x)))
+    let f = normal r start end x in
+    Keeps Refused (verdict (entryGrounds b digest r start end x)) (answerOf (found b f)) b (entered b f (found b f))

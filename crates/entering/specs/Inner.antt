@@ -14,7 +14,7 @@ use Rattle.forming.specs.declared.Located.the-variants.{Accepted as Found, Refu
 use Rattle.refusal.specs.Keeps.{Keeps}
 use Rattle.numbering.specs.declared.Entered.{Entered}
 use Rattle.numbering.specs.declared.Entered.the-variants.{Refused as Unentered}
-use Rattle.numbering.specs.Found.{found, entered}
+use Rattle.numbering.specs.Found.{found, answerOf, entered}
 use Rattle.numbering.specs.Calls.{roomGrounds}
 use Rattle.entering.specs.Calls.{imageGrounds, changeGrounds}
 
@@ -35,4 +35,5 @@ changeAnswer r start end x = tell Unfound (verdict (changeGrounds r start end x)
 unfoldable pub EntersAllele : List ℕ → List ℕ → ℕ → ℕ → List ℕ → Entered → List ℕ → Type 0
 EntersAllele b r start end x =
     let f = normal r start end x in
-    Keeps Unentered (verdict (changeGrounds r start end x ++ roomGrounds b f (found b f))) (found b f) b (entered b f (found b f))
+    Keeps Unentered (verdict (changeGrounds r start end x ++ roomGrounds b f (found b f))) (answerOf (found b f)) b
+    (entered b f (found b f))

@@ -4,7 +4,8 @@ use mathlib.Core.Path.{refl}
 use mathlib.Core.Logic.{inl, inr}
 use mathlib.Core.List.{List, _∷_}
 use Rattle.image.specs.Fields.{statusOf}
-use Rattle.history.specs.Events.{Way, Event, entry, undo, new, unsealed, sealed}
+use Rattle.numbering.specs.Found.{Way, new}
+use Rattle.history.specs.Events.{Event, entry, undo, unsealed, sealed}
 use Rattle.history.specs.Demand.{Active, Demand, EntryDemand, UndoDemand}
 use Rattle.history.proofs.View.{View, Moves}
 use Rattle.history.proofs.Standing.{undone-latest}

@@ -9,9 +9,8 @@ use borrow.Author.Tests.{eqb-true, eqb-false}
 use Rattle.stretch.proofs.Cases.{by-cases}
 use Rattle.normal.specs.Form.{Normal}
 use Rattle.image.specs.Fields.{issued, statusOf, active, inactive}
-use Rattle.numbering.specs.declared.Entered.the-variants.{New, Again, Known}
 use Rattle.lookup.specs.Lookup.{holds, lowestHolding}
-use Rattle.numbering.specs.Found.{found}
+use Rattle.numbering.specs.Found.{_under_, new, again, known, found}
 use Rattle.history.specs.Demand.{Live}
 use Rattle.lookup.proofs.Lowest.{lowest-passes, lowest-none}
 use Rattle.history.proofs.Proper.{Has, holds-told, holds-met}
@@ -23,9 +22,10 @@ pub record Match (b : List ℕ) (f : Normal) (status i : ℕ) : Type 0 where
   pub has : Has b i f
 
 pub data Finding (b : List ℕ) (f : Normal) : Type 0 where
-  active-as : (i : ℕ) → found b f ≡ Known i → Match b f active i → Finding b f
-  withdrawn-as : (i : ℕ) → found b f ≡ Again i → Match b f inactive i → Finding b f
-  nowhere : found b f ≡ New (issued b + 1) → ((i : ℕ) → Match b f active i → ⊥) → ((i : ℕ) → Match b f inactive i → ⊥) → Finding b f
+  active-as : (i : ℕ) → found b f ≡ known under i → Match b f active i → Finding b f
+  withdrawn-as : (i : ℕ) → found b f ≡ again under i → Match b f inactive i → Finding b f
+  nowhere : found b f ≡ new under (issued b + 1)
+      → ((i : ℕ) → Match b f active i → ⊥) → ((i : ℕ) → Match b f inactive i → ⊥) → Finding b f
 
 module _ (b : List ℕ) (f : Normal) where
   module _ (status : ℕ) where

@@ -2,7 +2,9 @@
 use Prim.Native.Nat.{ℕ}
 use mathlib.Core.Path.{_≡_, refl, sym, _∙_, subst}
 use mathlib.Core.List.{List, [], _∷_}
-use Rattle.history.specs.Events.{Event, entry, withdrawal, undo, seal, refusal, new, again, known, added, removed, unsealed, sealed, standing}
+use Rattle.numbering.specs.Found.{new, again, known}
+use Rattle.history.specs.Events.{Event, entry, withdrawal, undo, seal, refusal}
+use Rattle.history.specs.Events.{added, removed, unsealed, sealed, standing}
 use Rattle.history.proofs.View.{View, KeepsOthers, Moves}
 use Rattle.history.proofs.Standing.{Stands, act-fresh, stands-changed, stands-undone, stands-sealed}
 use Rattle.history.proofs.Numbers.{Numbers, numbers-kept, numbers-new}

@@ -4,7 +4,8 @@ use mathlib.Core.Path.{_≡_, sym, _∙_, subst}
 use mathlib.Core.Logic.{inl, inr, ⊎-elim}
 use mathlib.Core.List.{List, _∷_}
 use borrow.Author.Tests.{eq-eqb, ne-eqb}
-use Rattle.history.specs.Events.{Way, Event, entry, withdrawal, undo, seal, refusal, new, Occurs, meant}
+use Rattle.numbering.specs.Found.{Way, new}
+use Rattle.history.specs.Events.{Event, entry, withdrawal, undo, seal, refusal, Occurs, meant}
 use Rattle.history.proofs.View.{View, KeepsOthers, New}
 use Rattle.history.proofs.Equal.{by-equal}
 

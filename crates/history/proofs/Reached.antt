@@ -14,7 +14,8 @@ use Rattle.blank.specs.Calls.{Blanks, blankGrounds}
 use Rattle.blank.proofs.BlankTests.{blankable}
 use Rattle.effects.proofs.Blanked.{blanked-seen}
 use Rattle.effects.proofs.BlankedFormed.{fresh-formed}
-use Rattle.history.specs.Events.{Way, Event, entry, undo}
+use Rattle.numbering.specs.Found.{Way}
+use Rattle.history.specs.Events.{Event, entry, undo}
 use Rattle.history.specs.Runs.{Call, Run, no-calls, _then_}
 use Rattle.history.specs.Demand.{Live, Demand, EntryDemand, UndoDemand}
 use Rattle.history.proofs.Invariant.{Inv, inv-empty, inv-moved}

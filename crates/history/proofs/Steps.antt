@@ -21,16 +21,15 @@ use Rattle.image.specs.Formed.{wellFormed}
 use Rattle.image.proofs.WellFormed.{FormedEntry, formed}
 use Rattle.image.proofs.Lengths.{formed-inside}
 use Rattle.numbering.specs.declared.Entered.{Entered}
-use Rattle.numbering.specs.declared.Entered.the-variants.{New, Again, Refused as Unentered}
+use Rattle.numbering.specs.declared.Entered.the-variants.{Refused as Unentered}
 use Rattle.register.specs.declared.Undone.the-variants.{Number, Refused as NotUndone}
-use Rattle.numbering.specs.Found.{found}
+use Rattle.numbering.specs.Found.{_under_, new, again, known, found, answerOf, entered}
 use Rattle.changes.specs.Changes.{withdrawn, reentered, numbered, undone, latest, sealed}
-use Rattle.numbering.specs.Found.{entered}
 use Rattle.changes.specs.Grounds.{notWellFormed}
 use Rattle.numbering.specs.Calls.{roomGrounds}
 use Rattle.entering.specs.Calls.{Enters, entryGrounds}
 use Rattle.register.specs.Calls.{Withdraws, Undoes, Seals, withdrawalGrounds, undoGrounds}
-use Rattle.history.specs.Events.{Event, entry, withdrawal, undo, seal, refusal, new, again, known}
+use Rattle.history.specs.Events.{Event, entry, withdrawal, undo, seal, refusal}
 use Rattle.history.specs.Runs.{Call, enters, withdraws, undoes, seals, entryEvent, undoEvent, outcomeEvent}
 use Rattle.history.specs.Demand.{Live, sequenceOf}
 use Rattle.history.proofs.Found.{Match, Finding, active-as, withdrawn-as, nowhere, finding}
@@ -148,10 +147,10 @@ module _ (r b : List ℕ) (state : State r b) where
           moves = record { live = m .live; stands = has-stands r b i start end x (m .has); on = m .status-is; same = refl };
         }
 
-    again-room : (i : ℕ) → found b f ≡ Again i → journalCount b < journalCapacity b
-    again-room i e = leb-false _ _ (none-holds (roomGrounds b f (Again i)) (rw e at (ok .room)) 0)
+    again-room : (i : ℕ) → found b f ≡ again under i → journalCount b < journalCapacity b
+    again-room i e = leb-false _ _ (none-holds (roomGrounds b f (again under i)) (rw e at (ok .room)) 0)
 
-    again-step : (i : ℕ) → found b f ≡ Again i → Match b f inactive i → Step r b (entry again i t) (reentered b i)
+    again-step : (i : ℕ) → found b f ≡ again under i → Match b f inactive i → Step r b (entry again i t) (reentered b i)
     again-step i e m =
         let f = formed b (state .formed) in
         let room = again-room i e in
@@ -176,9 +175,9 @@ module _ (r b : List ℕ) (state : State r b) where
         let none = ltb-false (foreign (f .replacement)) (length (f .replacement)) (none-holds five (verdict-later (givenGrounds r start end x) five (ok .form)) 0) in
         foreign-none (f .replacement) (omega (arith, none, foreign-le (f .replacement)))
 
-    new-room : found b f ≡ New (issued b + 1) → Roomy b f
+    new-room : found b f ≡ new under (issued b + 1) → Roomy b f
     new-room e =
-        let gs = roomGrounds b f (New (issued b + 1)) in
+        let gs = roomGrounds b f (new under (issued b + 1)) in
         let v : verdict gs ≡ accepted = rw e at (ok .room) in
         record {
           record-free = leb-false _ _ (none-holds gs v 0);
@@ -195,7 +194,7 @@ module _ (r b : List ℕ) (state : State r b) where
         (λ on. none-active j (record { live = l; status-is = on; has = has }))
         (zero-or-one (statusOf b j) (live-status j l))
 
-    new-step : found b f ≡ New (issued b + 1) → ((i : ℕ) → Match b f active i → ⊥) → ((i : ℕ) → Match b f inactive i → ⊥)
+    new-step : found b f ≡ new under (issued b + 1) → ((i : ℕ) → Match b f active i → ⊥) → ((i : ℕ) → Match b f inactive i → ⊥)
         → Step r b (entry new (issued b + 1) t) (numbered b f)
     new-step e active-none inactive-none =
         let g = formed b (state .formed) in
@@ -220,7 +219,7 @@ module _ (r b : List ℕ) (state : State r b) where
         }
 
     entry-step : Finding b f → (answer : Entered) (left : List ℕ) (e : Event)
-        → answer ≡ found b f → left ≡ entered b f (found b f) → e ≡ entryEvent t answer → Step r b e left
+        → answer ≡ answerOf (found b f) → left ≡ entered b f (found b f) → e ≡ entryEvent t answer → Step r b e left
     entry-step (active-as i g m) answer left e p q s = rw (q, s, p, g) (known-step i m)
     entry-step (withdrawn-as i g m) answer left e p q s = rw (q, s, p, g) (again-step i g m)
     entry-step (nowhere g n m) answer left e p q s = rw (q, s, p, g) (new-step g n m)
@@ -231,7 +230,7 @@ module _ (r b : List ℕ) (state : State r b) where
       ⊎-elim
       (λ d. entry-step start end x (enterable b digest r start end x (d .passed)) (finding b (normal r start end x)) answer left e (d .answers) (d .leaves) s)
       (λ d. refused-step e left (s ∙ ap (entryEvent (altered r start end x)) (d .answers)) (d .leaves))
-      (done-or-left Unentered (verdict (entryGrounds b digest r start end x)) (found b (normal r start end x)) b (entered b (normal r start end x) (found b (normal r start end x))) answer left p)
+      (done-or-left Unentered (verdict (entryGrounds b digest r start end x)) (answerOf (found b (normal r start end x))) b (entered b (normal r start end x) (found b (normal r start end x))) answer left p)
   step e left (withdraws i answer p s) =
       ⊎-elim
       (λ d. rw (d .leaves, s ∙ ap (outcomeEvent (withdrawal i)) (d .answers)) (withdrawn-step i (withdrawable b i (d .passed))))

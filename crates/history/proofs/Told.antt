@@ -4,7 +4,8 @@ use mathlib.Core.Path.{_≡_, refl, sym, _∙_, ap, subst}
 use mathlib.Core.Bool.{true, true≢false}
 use mathlib.Core.Logic.{_↔_}
 use mathlib.Core.List.{List}
-use Rattle.history.specs.Events.{Way, Event, entry, new, again, known, Occurs, standing, meant, replayed}
+use Rattle.numbering.specs.Found.{Way, new, again, known}
+use Rattle.history.specs.Events.{Event, entry, Occurs, standing, meant, replayed}
 use Rattle.history.proofs.View.{View, Moves}
 use Rattle.history.proofs.Standing.{act}
 use Rattle.history.proofs.Invariant.{Inv}

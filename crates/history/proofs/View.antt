@@ -2,7 +2,8 @@
 use Prim.Native.Nat.{ℕ, suc, _-_, _<_}
 use mathlib.Core.Path.{_≡_}
 use mathlib.Core.List.{List}
-use Rattle.history.specs.Events.{Event, entry, withdrawal, undo, seal, refusal, new, again, known}
+use Rattle.numbering.specs.Found.{new, again, known}
+use Rattle.history.specs.Events.{Event, entry, withdrawal, undo, seal, refusal}
 
 pub record View : Type 1 where
   -- the number stands for something

@@ -7,7 +7,8 @@ use mathlib.Core.List.{List, _∷_}
 use lib.ListN.{length}
 use Rattle.normal.specs.Form.{altered}
 use Rattle.image.specs.Fields.{issued, journalCount, startOf, endOf, statusOf, replacementOf, active}
-use Rattle.history.specs.Events.{Way, Event, entry, new, Occurs, Change, numberOf, unsealed, standing, meant, replayed}
+use Rattle.numbering.specs.Found.{Way, new}
+use Rattle.history.specs.Events.{Event, entry, Occurs, Change, numberOf, unsealed, standing, meant, replayed}
 
 -- a number stands for something: it is issued
 pub record Live (b : List ℕ) (i : ℕ) : Type 0 where

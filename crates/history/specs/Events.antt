@@ -7,12 +7,7 @@ use mathlib.Core.List.{List, [], _∷_, _++_}
 use lib.Dec.{eqb}
 use lib.ListN.{drop}
 use Rattle.stretch.specs.Same.{same}
-
--- how an accepted entry is answered
-pub data Way : Type 0 where
-  new : Way
-  again : Way
-  known : Way
+use Rattle.numbering.specs.Found.{Way, new, again, known}
 
 -- an accepted entry, with its answer, its number and the altered sequence that it made; an accepted withdrawal of a number;
 -- an accepted undo, with the number answered; an accepted seal; a refused call

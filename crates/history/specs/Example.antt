@@ -9,12 +9,13 @@ use Rattle.refusal.specs.declared.Outcome.the-variants.{Accepted}
 use Rattle.normal.specs.Form.{altered, normal}
 use Rattle.numbering.specs.declared.Entered.{Entered}
 use Rattle.numbering.specs.declared.Entered.the-variants.{New, Again, Known, Refused}
+use Rattle.numbering.specs.Found.{new, again, known}
 use Rattle.register.specs.declared.Undone.the-variants.{Number}
 use Rattle.changes.specs.Changes.{blanked, numbered, reentered, withdrawn, undone, sealed}
 use Rattle.entering.specs.Calls.{Enters}
 use Rattle.blank.specs.Calls.{Blanks}
 use Rattle.register.specs.Calls.{Withdraws, Undoes, Seals}
-use Rattle.history.specs.Events.{Event, entry, new, again, known, undo, withdrawal, seal, refusal}
+use Rattle.history.specs.Events.{Event, entry, undo, withdrawal, seal, refusal}
 
 -- the reference, its digest, and a buffer of just the room, filled with some byte
 abbrev pub reference : List ℕ

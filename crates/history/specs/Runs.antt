@@ -7,11 +7,12 @@ use Rattle.refusal.specs.declared.Outcome.the-variants.{Accepted, Refused}
 use Rattle.normal.specs.Form.{altered}
 use Rattle.numbering.specs.declared.Entered.{Entered}
 use Rattle.numbering.specs.declared.Entered.the-variants.{New, Again, Known, Refused as Unentered}
+use Rattle.numbering.specs.Found.{new, again, known}
 use Rattle.register.specs.declared.Undone.{Undone}
 use Rattle.register.specs.declared.Undone.the-variants.{Number, Refused as NotUndone}
 use Rattle.entering.specs.Calls.{Enters}
 use Rattle.register.specs.Calls.{Withdraws, Undoes, Seals}
-use Rattle.history.specs.Events.{Event, entry, withdrawal, undo, seal, refusal, new, again, known}
+use Rattle.history.specs.Events.{Event, entry, withdrawal, undo, seal, refusal}
 
 -- what an answer is in the history
 abbrev pub entryEvent : List ℕ → Entered → Event

@@ -7,20 +7,19 @@ use Rattle.normal.specs.Form.{Normal}
 use Rattle.refusal.specs.Keeps.{Keeps}
 use Rattle.changes.specs.Grounds.{noFreeRecord, noPoolRoom, noJournalRoom}
 use Rattle.numbering.specs.declared.Entered.{Entered}
-use Rattle.numbering.specs.declared.Entered.the-variants.{New, Again, Known, Refused}
-use Rattle.numbering.specs.Found.{found, entered}
+use Rattle.numbering.specs.declared.Entered.the-variants.{Refused}
+use Rattle.numbering.specs.Found.{Found, _under_, new, again, known, found, answerOf, entered}
 
 -- room for what was found: none is asked for "known", 15 for "again", 13, 14, 15 for "new"
-abbrev pub roomGrounds : List ℕ → Normal → Entered → List Ground
-roomGrounds b f (New i) = noFreeRecord b ∷ noPoolRoom b (length (f .replacement)) ∷ noJournalRoom b ∷ []
-roomGrounds b f (Again i) = noJournalRoom b ∷ []
-roomGrounds b f (Known i) = []
-roomGrounds b f (Refused r) = []
+abbrev pub roomGrounds : List ℕ → Normal → Found → List Ground
+roomGrounds b f (new under i) = noFreeRecord b ∷ noPoolRoom b (length (f .replacement)) ∷ noJournalRoom b ∷ []
+roomGrounds b f (again under i) = noJournalRoom b ∷ []
+roomGrounds b f (known under i) = []
 
 -- the entry of a form that was found so
-abbrev pub EntersAs : List ℕ → Normal → Entered → Entered → List ℕ → Type 0
-EntersAs b f said = Keeps Refused (verdict (roomGrounds b f said)) said b (entered b f said)
+abbrev pub EntersAs : List ℕ → Normal → Found → Entered → List ℕ → Type 0
+EntersAs b f g = Keeps Refused (verdict (roomGrounds b f g)) (answerOf g) b (entered b f g)
 
 -- a form that has passed its tests
 unfoldable pub EntersForm : List ℕ → Normal → Entered → List ℕ → Type 0
-EntersForm b f = Keeps Refused (verdict (roomGrounds b f (found b f))) (found b f) b (entered b f (found b f))
+EntersForm b f = EntersAs b f (found b f)

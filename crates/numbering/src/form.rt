@@ -31,7 +31,8 @@ ghost use Rattle.lookup.specs.Lookup.{asked};
 ghost use Rattle.changes.specs.Changes.{reentered};
 ghost use Rattle.refusal.specs.Keeps.{Keeps};
 ghost use Rattle.changes.specs.Grounds.{noJournalRoom};
-ghost use Rattle.numbering.specs.declared.Entered.the-variants.{New, Again, Refused};
+ghost use Rattle.numbering.specs.declared.Entered.the-variants.{Again, Refused};
+ghost use Rattle.numbering.specs.Found.{_under_, new};
 ghost use Rattle.numbering.specs.Calls.{EntersAs, EntersForm};
 
 // 15, and a number that is active again.
@@ -52,7 +53,7 @@ fn reenter(image: &mut [u8], number: usize) -> Entered
 fn enter_new(image: &mut [u8], form: Form, a: &[u8], b: &[u8], c: &[u8]) -> Entered
     requires { ⌜ Header (now image) ⌝ }
     requires { ⌜ form .length ≡ length (now a) + (length (now b) + length (now c)) ⌝ }
-    ensures { λ r. ⌜ EntersAs (now (image .entry)) (asked form (now (a .entry)) (now (b .entry)) (now (c .entry))) (New (issued (now (image .entry)) + 1)) r (now (image .exit)) ⌝ }
+    ensures { λ r. ⌜ EntersAs (now (image .entry)) (asked form (now (a .entry)) (now (b .entry)) (now (c .entry))) (new under (issued (now (image .entry)) + 1)) r (now (image .exit)) ⌝ }
 {
     let issued = read_number(image, ISSUED);
     let records = read_number(image, RECORD_CAPACITY);

@@ -1,7 +1,8 @@
 // Which number a normal form gets in a register's image (document 01, "Entry"): "known", else "again", else
 // "new", where there is room. Crate `entering` makes it a call, with the tests of image and allele.
 //
-// specs/Found.antt has what an entry is answered and leaves, and specs/Calls.antt what a form's entry promises.
+// specs/Found.antt has how a form is found and what its entry is answered and leaves, and specs/Calls.antt what
+// that entry promises.
 mod form;
 
 pub use form::enter_form;
