@@ -2,10 +2,10 @@
 use Prim.Native.Nat.{ℕ}
 use mathlib.Core.Path.{refl}
 use mathlib.Core.Logic.{inl, inr}
-use mathlib.Core.List.{List, _∷_}
+use mathlib.Core.List.{List}
 use Rattle.image.specs.Fields.{statusOf}
 use Rattle.numbering.specs.Found.{Way, new}
-use Rattle.history.specs.Events.{Event, entry, undo, unsealed, sealed}
+use Rattle.history.specs.Events.{Event, entry, undo, unsealed}
 use Rattle.history.specs.Demand.{Active, Demand, EntryDemand, UndoDemand}
 use Rattle.history.proofs.View.{View, Moves}
 use Rattle.history.proofs.Standing.{undone-latest}
@@ -21,31 +21,32 @@ module _ (r b : List ℕ) where
   active-holds : (i : ℕ) (t : List ℕ) → Active r b i t → Holds (shows r b) (statusOf b) i t
   active-holds i t a = record { live = a .live; on = a .on; stands = a .stands }
 
-  pub demanded : (h : List Event) → Inv h (shows r b) → Demand r h b
-  demanded h inv =
+  pub demanded : {h : List Event} → Inv h (shows r b) → Demand r h b
+  demanded inv =
+      let numbers = inv .numbers in
       record {
         replays = λ t. (
-          λ e. let some : SomeHolds (shows r b) (statusOf b) t = told-set h (shows r b) inv t .0 e in
+          λ e. let some : SomeHolds (shows r b) (statusOf b) t = told-set inv t .0 e in
               record { number = some .number; shown = holds-active _ t (some .holds) },
-          λ some. told-set h (shows r b) inv t .1 (record { number = some .number; holds = active-holds _ t (some .shown) }),
+          λ some. let held = active-holds _ t (some .shown) in
+              told-set inv t .1 (record { number = some .number; holds = held }),
         );
-        one = told-one h (shows r b) inv;
-        stays = inv .numbers .answered;
-        issuer = inv .numbers .issued;
-        distinct = inv .numbers .one;
+        one = told-one inv;
+        stays = numbers .answered;
+        issuer = numbers .issued;
+        distinct = numbers .one;
         journal = inv .stands .count;
       }
 
-  module _ (h : List Event) (v : View) (inv : Inv h v) (i : ℕ) where
+  module _ {h : List Event} {v : View} (inv : Inv h v) (i : ℕ) where
     pub entry-demanded : (way : Way) (t : List ℕ) → Moves v (entry way i t) (shows r b) → EntryDemand r h b way i t
     entry-demanded way t m =
         record {
-          active = holds-active i t (entry-holds h v inv (shows r b) i way t m);
-          earlier = λ j u o. told-one (entry way i t ∷ h) (shows r b) (inv-moved h (entry way i t) v (shows r b) inv m)
-              way new i j t u (inl refl) (inr o);
-          first = entry-first h v inv (shows r b) i way t m;
+          active = holds-active i t (entry-holds inv (shows r b) i way t m);
+          earlier = λ j u o. told-one (inv-moved (entry way i t) inv m) way new i j t u (inl refl) (inr o);
+          first = entry-first inv (shows r b) i way t m;
         }
 
     pub undo-demanded : Moves v (undo i) (shows r b) → UndoDemand h i
-    undo-demanded m = undone-latest (sealed h) v (shows r b) i m (unsealed h) (inv .stands)
+    undo-demanded m = undone-latest m (unsealed h) (inv .stands)
         (λ c cs e own. record { taken = c; others = cs; latest = e; answered = own })

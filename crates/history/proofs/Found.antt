@@ -21,11 +21,14 @@ pub record Match (b : List ℕ) (f : Normal) (status i : ℕ) : Type 0 where
   pub status-is : statusOf b i ≡ status
   pub has : Has b i f
 
+-- no number of this status does
+abbrev pub Unmatched : List ℕ → Normal → ℕ → Type 0
+Unmatched b f status = (i : ℕ) → Match b f status i → ⊥
+
 pub data Finding (b : List ℕ) (f : Normal) : Type 0 where
   active-as : (i : ℕ) → found b f ≡ known under i → Match b f active i → Finding b f
   withdrawn-as : (i : ℕ) → found b f ≡ again under i → Match b f inactive i → Finding b f
-  nowhere : found b f ≡ new under (issued b + 1)
-      → ((i : ℕ) → Match b f active i → ⊥) → ((i : ℕ) → Match b f inactive i → ⊥) → Finding b f
+  nowhere : found b f ≡ new under (issued b + 1) → Unmatched b f active → Unmatched b f inactive → Finding b f
 
 module _ (b : List ℕ) (f : Normal) where
   module _ (status : ℕ) where
@@ -38,7 +41,7 @@ module _ (b : List ℕ) (f : Normal) where
         let t = holds-told b status f (lowestHolding b status f) (q .0) in
         record { live = record { from = from; to = q .1 }; status-is = t .0; has = t .1 }
 
-    none : eqb (lowestHolding b status f) 0 ≡ true → (i : ℕ) → Match b f status i → ⊥
+    none : eqb (lowestHolding b status f) 0 ≡ true → Unmatched b f status
     unfolding lowestHolding
     none e i m =
         let fails = lowest-none (holds b status f) (issued b) (eqb-true _ _ e) i (m .live .from) (m .live .to) in

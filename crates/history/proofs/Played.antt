@@ -15,15 +15,27 @@ use Rattle.numbering.specs.declared.Entered.the-variants.{New, Again, Known}
 use Rattle.register.specs.declared.Undone.the-variants.{Number}
 use Rattle.lookup.specs.Lookup.{holds, lowest, lowestHolding}
 use Rattle.numbering.specs.Found.{found}
-use Rattle.changes.specs.Changes.{blanked, journalled, marked, withdrawn, reentered, recorded, pooled, counted, numbered, latest, undone, sealed}
+use Rattle.changes.specs.Changes.{blanked, journalled, marked, withdrawn, reentered, recorded, pooled, counted}
+use Rattle.changes.specs.Changes.{numbered, latest, undone, sealed}
 use Rattle.entering.specs.Calls.{imageGrounds, changeGrounds, entryGrounds, Enters}
 use Rattle.blank.specs.Calls.{blankGrounds}
 use Rattle.register.specs.Calls.{withdrawalGrounds, Withdraws, undoGrounds, Undoes, Seals}
 use Rattle.history.specs.Runs.{Run, no-calls, _then_, enters, withdraws, undoes, seals}
-use Rattle.history.specs.Example.{Played, reference, digest, events, blank, one, oneUndone, two, oneAgain, oneWithdrawn, closed}
+use Rattle.history.specs.Example.{Played, reference, digest, events}
+use Rattle.history.specs.Example.{blank, one, oneUndone, two, oneAgain, oneWithdrawn, closed}
 
 pub played : Played
-unfolding below lcp lcs over same residue base64url every firstOutside digestTextGrounds altered shorter within ahead behind kindIn kindOf changedForm normal formGrounds little bytes number numbers put headerOf recordAt recordOf replacementOf laidOut countsWithin withinLimits lengths recordGood entryGood wellFormed holds lowest lowestHolding found blanked journalled marked withdrawn reentered recorded pooled counted numbered latest undone sealed blankGrounds imageGrounds changeGrounds entryGrounds Enters withdrawalGrounds Withdraws undoGrounds Undoes Seals blank one oneUndone two oneAgain oneWithdrawn closed
+unfolding below lcp lcs over same
+    residue base64url every firstOutside digestTextGrounds
+    altered shorter within ahead behind kindIn kindOf changedForm normal formGrounds
+    little bytes number numbers put
+    headerOf recordAt recordOf replacementOf
+    laidOut countsWithin withinLimits lengths recordGood entryGood wellFormed
+    holds lowest lowestHolding found
+    blanked journalled marked withdrawn reentered recorded pooled counted numbered latest undone sealed
+    blankGrounds imageGrounds changeGrounds entryGrounds Enters
+    withdrawalGrounds Withdraws undoGrounds Undoes Seals
+    blank one oneUndone two oneAgain oneWithdrawn closed
 played =
     record {
       first = record { answers = refl; leaves = refl };
@@ -41,11 +53,11 @@ played =
 pub played-run : Run reference blank events closed
 played-run =
     no-calls
-    then enters digest 4 4 _ (New 1) (played .case-1) refl
-    then undoes (Number 1) (played .undone-1) refl
-    then enters digest 2 3 _ (New 2) (played .case-4) refl
-    then enters digest 1 2 _ (Again 1) (played .case-2) refl
-    then enters digest 3 5 _ _ (played .case-6) refl
-    then enters digest 1 5 _ (Known 2) (played .case-5) refl
-    then withdraws 1 Accepted (played .withdrawn-1) refl
-    then seals Accepted (played .sealed-all) refl
+    then enters digest 4 4 _ (New 1) (played .case-1)
+    then undoes (Number 1) (played .undone-1)
+    then enters digest 2 3 _ (New 2) (played .case-4)
+    then enters digest 1 2 _ (Again 1) (played .case-2)
+    then enters digest 3 5 _ _ (played .case-6)
+    then enters digest 1 5 _ (Known 2) (played .case-5)
+    then withdraws 1 Accepted (played .withdrawn-1)
+    then seals Accepted (played .sealed-all)

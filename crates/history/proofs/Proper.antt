@@ -30,10 +30,14 @@ module _ (b : List ℕ) (status : ℕ) (f : Normal) (i : ℕ) where
   holds-told h =
       let status-is = both _ _ h in
       let start = both _ _ (status-is .1) in
-      let end = both _ _ (start .1) in (
-        eqb-true _ _ (status-is .0),
-        record { start = eqb-true _ _ (start .0); end = eqb-true _ _ (end .0); replacement = same-eq _ _ (last _ (end .1)) },
-      )
+      let end = both _ _ (start .1) in
+      let has : Has b i f
+      = record {
+        start = eqb-true _ _ (start .0);
+        end = eqb-true _ _ (end .0);
+        replacement = same-eq _ _ (last _ (end .1));
+      } in
+      (eqb-true _ _ (status-is .0), has)
 
   pub holds-met : statusOf b i ≡ status → Has b i f → holds b status f i ≡ true
   unfolding holds
@@ -49,9 +53,11 @@ module _ (r b : List ℕ) (i start end : ℕ) (x : List ℕ) where
   pub has-proper : same r (altered r start end x) ≡ false → Has b i (normal r start end x) → Proper r b i
   has-proper h p =
       let e = has-stands p in
-      let f : normal r start end x ≡ changedForm r (sequenceOf r b i) = normal-changed r start end x h ∙ ap (changedForm r) (sym e) in
+      let f : normal r start end x ≡ changedForm r (sequenceOf r b i)
+      = normal-changed r start end x h ∙ ap (changedForm r) (sym e) in
       record { changed = rw e h; form = subst (Has b i) f p }
 
   -- a proper record that stands for the altered sequence has the normal form
-  pub proper-has : same r (altered r start end x) ≡ false → Proper r b i → sequenceOf r b i ≡ altered r start end x → Has b i (normal r start end x)
+  pub proper-has : same r (altered r start end x) ≡ false → Proper r b i → sequenceOf r b i ≡ altered r start end x
+      → Has b i (normal r start end x)
   proper-has h p e = rw (normal-changed r start end x h, ← e) (p .form)

@@ -30,11 +30,11 @@ pub record Agree (r : List ℕ) (h : List Event) (b : List ℕ) : Type 0 where
 
 module _ {r b left : List ℕ} {h : List Event} {e : Event} (a : Agree r h b) (call : Call r b e left) where
   called : Step r b e left
-  called = step r b (a .state) e left call
+  called = step r b (a .state) call
 
   agree-then : Agree r (e ∷ h) left
   agree-then =
-      record { state = called .state; inv = inv-moved h e (shows r b) (shows r left) (a .inv) (called .moves) }
+      record { state = called .state; inv = inv-moved e (a .inv) (called .moves) }
 
 -- and stay so along every run
 pub agree-on : {r b₀ b : List ℕ} {h₀ h : List Event} → Agree r h₀ b₀ → Run r b₀ h b → Agree r (h ++ h₀) b
@@ -48,19 +48,20 @@ module _ {r b₀ b : List ℕ} {h₀ h : List Event} (a : Agree r h₀ b₀) whe
 
   -- that keep demand 3
   pub reached : Run r b₀ h b → Demand r (h ++ h₀) b
-  reached run = demanded r b (h ++ h₀) (agree-on a run .inv)
+  reached run = demanded r b (agree-on a run .inv)
 
   -- of its last call: an entry
-  pub reached-entry : {way : Way} {i : ℕ} {t : List ℕ} → Run r b₀ (entry way i t ∷ h) b → EntryDemand r (h ++ h₀) b way i t
+  pub reached-entry : {way : Way} {i : ℕ} {t : List ℕ} → Run r b₀ (entry way i t ∷ h) b
+      → EntryDemand r (h ++ h₀) b way i t
   reached-entry (run then call) =
       let before = agree-on a run in
-      entry-demanded r b (h ++ h₀) _ (before .inv) _ _ _ (called before call .moves)
+      entry-demanded r b (before .inv) _ _ _ (called before call .moves)
 
   -- an undo
   pub reached-undo : {i : ℕ} → Run r b₀ (undo i ∷ h) b → UndoDemand (h ++ h₀) i
   reached-undo (run then call) =
       let before = agree-on a run in
-      undo-demanded r b (h ++ h₀) _ (before .inv) _ (called before call .moves)
+      undo-demanded r b (before .inv) _ (called before call .moves)
 
 -- from a blank image, whatever the reference
 module _ (b : List ℕ) (n : ℕ) (digest : List ℕ) (records journal pool : ℕ) (blank : List ℕ)

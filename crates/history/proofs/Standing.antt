@@ -55,17 +55,26 @@ pub act-other : (c : Change) (cs : List Change) (i : ℕ) → (i ≡ numberOf c 
 act-other c cs i n = rw (ne-eqb (numberOf c) i (λ e. n (sym e))) refl
 
 -- changes leave alone what stands for nothing
-pub act-fresh : (v : View) (cs : List Change) (i : ℕ) → Valid v cs → (v .Live i → ⊥) → act cs i ≡ 0
+act-fresh : (v : View) (cs : List Change) (i : ℕ) → Valid v cs → (v .Live i → ⊥) → act cs i ≡ 0
 act-fresh v [] i valid fresh = refl
 act-fresh v (c ∷ cs) i valid fresh =
     act-other c cs i (λ e. fresh (subst (v .Live) (sym e) (valid .0 .live))) ∙ act-fresh v cs i (valid .1) fresh
+
+-- the status that the changes that stand leave a number with: none where it stands for nothing, else its own
+module _ {us ss : List Change} {v : View} (s : Stands us ss v) (i : ℕ) where
+  pub stands-fresh : (v .Live i → ⊥) → act (us ++ ss) i ≡ 0
+  stands-fresh = act-fresh v (us ++ ss) i (s .valid)
+
+  pub stands-status : {status : ℕ} → v .Live i → v .status i ≡ status → act (us ++ ss) i ≡ status
+  stands-status live e = sym (s .statuses i live) ∙ e
 
 means-kept : (v w : View) (c : Change) → w .sequence (numberOf c) ≡ v .sequence (numberOf c) → Means v c → Means w c
 means-kept v w (added i t) e m = e ∙ m
 means-kept v w (removed i) e m = m
 
 module _ {v w : View} (i : ℕ) (keeps : KeepsOthers v w i) where
-  status-kept : {us ss : List Change} → Stands us ss v → (j : ℕ) → (j ≡ i → ⊥) → w .Live j → w .status j ≡ act (us ++ ss) j
+  status-kept : {us ss : List Change} → Stands us ss v → (j : ℕ) → (j ≡ i → ⊥) → w .Live j
+      → w .status j ≡ act (us ++ ss) j
   status-kept s j n live =
       let before : v .Live j = keeps .lived j n live in keeps .statuses j before n ∙ s .statuses j before
 
@@ -87,31 +96,34 @@ module _ {v w : View} (i : ℕ) (keeps : KeepsOthers v w i) where
       (keeps .journals (length cs) (omega (arith, within)) ∙ m .0, journals-kept cs (omega (arith, within)) (m .1))
 
 -- one more change
-pub stands-changed : (us ss : List Change) (c : Change) (v w : View) → Stands us ss v
+pub stands-changed : {us ss : List Change} (c : Change) {v w : View} → Stands us ss v
     → Changes v w (numberOf c) (given c) → act (us ++ ss) (numberOf c) ≡ 1 - given c → Means w c → Stands (c ∷ us) ss w
-stands-changed us ss c v w s changes other means =
+stands-changed {us} {ss} c {w} s changes other means =
+    let i = numberOf c in
+    let keeps = changes .keeps in
     record {
-      statuses = λ j live. by-equal j (numberOf c)
+      statuses = λ j live. by-equal j i
           (λ e. ap (w .status) e ∙ changes .now ∙ sym (act-own c (us ++ ss) j e))
-          (λ n. status-kept (numberOf c) (changes .keeps) s j n live ∙ sym (act-other c (us ++ ss) j n));
+          (λ n. status-kept i keeps s j n live ∙ sym (act-other c (us ++ ss) j n));
       valid = (
         record { live = changes .lives; means = means; other = other },
-        valid-kept (numberOf c) (changes .keeps) (us ++ ss) (s .valid),
+        valid-kept i keeps (us ++ ss) (s .valid),
       );
       count = changes .count ∙ ap suc (s .count);
       journals = (
         ap (w .journal) (sym (s .count)) ∙ changes .last,
-        journals-kept (numberOf c) (changes .keeps) us (omega (arith, s .count)) (s .journals),
+        journals-kept i keeps us (omega (arith, s .count)) (s .journals),
       );
     }
 
 -- an undo: the latest change not sealed is about its number, and no longer stands
-module _ (ss : List Change) (v w : View) (i : ℕ) (u : Undone v w i) where
+module _ {ss : List Change} {v w : View} {i : ℕ} (u : Undone v w i) where
   undone-count : (us : List Change) → Stands us ss v → suc (w .count) ≡ length us
   undone-count us s = sym (u .count) ∙ s .count
 
   undone-own : (c : Change) (us : List Change) → Stands (c ∷ us) ss v → i ≡ numberOf c
-  undone-own c us s = sym (u .last) ∙ ap (v .journal) (omega (arith, undone-count (c ∷ us) s)) ∙ s .journals .0
+  undone-own c us s =
+      sym (u .last) ∙ ap (v .journal) (omega (arith, undone-count (c ∷ us) s)) ∙ s .journals .0
 
   pub undone-latest : {C : Type 0} (us : List Change) → Stands us ss v
       → ((c : Change) (cs : List Change) → us ≡ c ∷ cs → numberOf c ≡ i → C) → C
@@ -122,20 +134,23 @@ module _ (ss : List Change) (v w : View) (i : ℕ) (u : Undone v w i) where
   stands-undone [] s = absurd (omega (arith, undone-count [] s))
   stands-undone (c ∷ us) s =
       let own : i ≡ numberOf c = undone-own c us s in
+      let turns : Turns v c (us ++ ss) = s .valid .0 in
+      let keeps = u .keeps in
       record {
         statuses = λ j live. by-equal j i
-            (λ e. rw (e, u .turned, s .statuses i (u .live), act-own c (us ++ ss) i own, own) (sym (s .valid .0 .other)))
-            (λ n. status-kept i (u .keeps) s j n live ∙ act-other c (us ++ ss) j (λ e. n (e ∙ sym own)));
-        valid = valid-kept i (u .keeps) (us ++ ss) (s .valid .1);
+            (λ e. rw (e, u .turned, s .statuses i (u .live), act-own c (us ++ ss) i own, own) (sym (turns .other)))
+            (λ n. status-kept i keeps s j n live ∙ act-other c (us ++ ss) j (λ e. n (e ∙ sym own)));
+        valid = valid-kept i keeps (us ++ ss) (s .valid .1);
         count = omega (arith, undone-count (c ∷ us) s);
-        journals = journals-kept i (u .keeps) us (omega (arith, s .count)) (s .journals .1);
+        journals = journals-kept i keeps us (omega (arith, s .count)) (s .journals .1);
       }
 
-pub stands-sealed : (us ss : List Change) (v w : View) → Stands us ss v → Sealed v w → Stands [] (us ++ ss) w
-stands-sealed us ss v w s seal =
+pub stands-sealed : {us ss : List Change} {v w : View} → Stands us ss v → Sealed v w → Stands [] (us ++ ss) w
+stands-sealed {us} {ss} {w} s seal =
+    let keeps = seal .keeps in
     record {
-      statuses = λ j live. status-kept 0 (seal .keeps) s j (λ e. seal .nought (subst (w .Live) e live)) live;
-      valid = valid-kept 0 (seal .keeps) (us ++ ss) (s .valid);
+      statuses = λ j live. status-kept 0 keeps s j (λ e. seal .nought (subst (w .Live) e live)) live;
+      valid = valid-kept 0 keeps (us ++ ss) (s .valid);
       count = seal .count;
       journals = tt;
     }

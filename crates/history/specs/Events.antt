@@ -9,8 +9,8 @@ use lib.ListN.{drop}
 use Rattle.stretch.specs.Same.{same}
 use Rattle.numbering.specs.Found.{Way, new, again, known}
 
--- an accepted entry, with its answer, its number and the altered sequence that it made; an accepted withdrawal of a number;
--- an accepted undo, with the number answered; an accepted seal; a refused call
+-- an accepted entry, with its answer, its number and the altered sequence that it made; an accepted withdrawal
+-- of a number; an accepted undo, with the number answered; an accepted seal; a refused call
 pub data Event : Type 0 where
   entry : Way → ℕ → List ℕ → Event
   withdrawal : ℕ → Event
@@ -33,8 +33,8 @@ abbrev pub numberOf : Change → ℕ
 numberOf (added i t) = i
 numberOf (removed i) = i
 
--- the changes that stand and can be undone, the latest first, as in histories: "new", "again" and a withdrawal make one,
--- an undo takes the latest back, and a seal leaves none
+-- the changes that stand and can be undone, the latest first, as in histories: "new", "again" and a withdrawal
+-- make one, an undo takes the latest back, and a seal leaves none
 abbrev pub unsealed : List Event → List Change
 unsealed [] = []
 unsealed (entry new i t ∷ h) = added i t ∷ unsealed h
@@ -69,8 +69,8 @@ meant (undo j ∷ h) i = meant h i
 meant (seal ∷ h) i = meant h i
 meant (refusal ∷ h) i = meant h i
 
--- whether a sequence is in the set that the changes make of the empty one: an entry puts its sequence in, a withdrawal takes
--- out what its number stands for
+-- whether a sequence is in the set that the changes make of the empty one: an entry puts its sequence in, a
+-- withdrawal takes out what its number stands for
 abbrev pub replayed : (ℕ → List ℕ) → List Change → List ℕ → Bool
 replayed meaning [] t = false
 replayed meaning (added i u ∷ cs) t = cond (same u t) true (replayed meaning cs t)

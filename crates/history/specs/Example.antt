@@ -1,5 +1,5 @@
--- Document 01, "Worked alleles": the register with room for 2 records, 3 journal entries and 15 letters, and two calls more, so that each
--- kind of call is accepted once.
+-- Document 01, "Worked alleles": the register with room for 2 records, 3 journal entries and 15 letters, and two
+-- calls more, so that each kind of call is accepted once.
 use Prim.Native.Nat.{ℕ}
 use Prim.Native.String.{String}
 use mathlib.Core.List.{List, [], _∷_}

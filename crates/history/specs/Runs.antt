@@ -1,6 +1,5 @@
 -- How calls on an image make a history: by their own promises, one reference being lent to all of them.
 use Prim.Native.Nat.{ℕ}
-use mathlib.Core.Path.{_≡_}
 use mathlib.Core.List.{List, [], _∷_}
 use Rattle.refusal.specs.declared.Outcome.{Outcome}
 use Rattle.refusal.specs.declared.Outcome.the-variants.{Accepted, Refused}
@@ -29,14 +28,14 @@ abbrev pub outcomeEvent : Event → Outcome → Event
 outcomeEvent e Accepted = e
 outcomeEvent e (Refused r) = refusal
 
--- a call that keeps its promise on an image b, answers what the event tells, and leaves another image
-pub data Call (r b : List ℕ) (e : Event) (left : List ℕ) : Type 0 where
-  enters : (digest : List ℕ) (start end : ℕ) (x : List ℕ) (answer : Entered)
-      → Enters b digest r start end x answer left → e ≡ entryEvent (altered r start end x) answer → Call r b e left
-  withdraws : (i : ℕ) (answer : Outcome)
-      → Withdraws b i answer left → e ≡ outcomeEvent (withdrawal i) answer → Call r b e left
-  undoes : (answer : Undone) → Undoes b answer left → e ≡ undoEvent answer → Call r b e left
-  seals : (answer : Outcome) → Seals b answer left → e ≡ outcomeEvent seal answer → Call r b e left
+-- a call that keeps its promise on an image b: what it comes to in the history, and the image that it leaves
+pub data Call (r b : List ℕ) : Event → List ℕ → Type 0 where
+  enters : (digest : List ℕ) (start end : ℕ) (x : List ℕ) (answer : Entered) {left : List ℕ}
+      → Enters b digest r start end x answer left → Call r b (entryEvent (altered r start end x) answer) left
+  withdraws : (i : ℕ) (answer : Outcome) {left : List ℕ}
+      → Withdraws b i answer left → Call r b (outcomeEvent (withdrawal i) answer) left
+  undoes : (answer : Undone) {left : List ℕ} → Undoes b answer left → Call r b (undoEvent answer) left
+  seals : (answer : Outcome) {left : List ℕ} → Seals b answer left → Call r b (outcomeEvent seal answer) left
 
 -- calls that lead from an image b to another, and their history, the latest first
 infixl 20 _then_
