@@ -10,8 +10,9 @@ use Rattle.stretch.specs.Common.{lcp, lcs}
 use Rattle.stretch.proofs.Cases.{by-cases}
 use Rattle.refusal.specs.declared.Refusal.{Refusal}
 use Rattle.refusal.specs.declared.Outcome.the-variants.{Accepted, Refused}
-use Rattle.refusal.specs.Verdict.{ground, accepted, verdict}
-use Rattle.refusal.proofs.Verdict.{none-holds, verdict-first, verdict-then, verdict-fewer, outcome-accepted, outcome-refused}
+use Rattle.refusal.specs.Verdict.{Ground, accepted, verdict}
+use Rattle.refusal.proofs.Verdict.{none-holds, verdict-first, verdict-then, verdict-fewer}
+use Rattle.refusal.proofs.Verdict.{outcome-accepted, outcome-refused}
 use Rattle.normal.specs.declared.Stretches.{Stretches}
 use Rattle.normal.specs.Form.{Normal, normal, altered, shorter, kindOf, kindIn}
 use Rattle.normal.specs.Stretches.{Fits, stretchesOf, asGiven, changedStretches, spread, formIn}
@@ -27,7 +28,7 @@ use Rattle.numbering.specs.declared.Entered.the-variants.{Refused as Unentered}
 use Rattle.numbering.specs.Found.{found}
 use Rattle.numbering.specs.Calls.{roomGrounds, EntersAs, EntersForm}
 use Rattle.entering.specs.Inner.{unchanged, imageAnswer, changeAnswer, EntersAllele}
-use Rattle.entering.specs.Calls.{imageGrounds, changeGrounds, entryGrounds, Enters}
+use Rattle.entering.specs.Calls.{imageGrounds, unchangedAllele, changeGrounds, entryGrounds, Enters}
 
 -- 12 behind 1 to 5
 module _ (r : List ℕ) (start end : ℕ) (x : List ℕ) where
@@ -35,26 +36,32 @@ module _ (r : List ℕ) (start end : ℕ) (x : List ℕ) where
   unfolding stretchesOf asGiven changedStretches spread kindOf kindIn
   unchanged-same =
       let t = altered r start end x in
-      by-cases (same r t) (λ e. rw e) (λ e. rw e (by-cases (ltb (lcp r t + lcs r t) (shorter r t)) (λ k. rw k) (λ k. rw k)))
+      by-cases (same r t)
+      (λ e. rw e)
+      (λ e. rw e (by-cases (ltb (lcp r t + lcs r t) (shorter r t)) (λ k. rw k) (λ k. rw k)))
+
+  abbrev twelve : List Ground
+  twelve = unchangedAllele r start end x ∷ []
 
   module _ (w : Stretches) (e : Found w ≡ locatedClean r start end x) where
     same-kind : unchanged (w .kind) ≡ same r (altered r start end x)
     same-kind = rw (clean-accepted r start end x w e .1) unchanged-same
 
-    twelve : verdict (changeGrounds r start end x) ≡ verdict (ground (same r (altered r start end x)) 12 0 ∷ [])
+    by-twelve : verdict (changeGrounds r start end x) ≡ verdict twelve
     unfolding changeGrounds
-    twelve = verdict-then (formGrounds r start end x) (ground (same r (altered r start end x)) 12 0 ∷ []) (clean-accepted r start end x w e .0)
+    by-twelve = verdict-then (formGrounds r start end x) twelve (clean-accepted r start end x w e .0)
 
-    pub change-none : unchanged (w .kind) ≡ true → _≡_ {A = Located} (Unfound (record { number = 12; value = 0 })) (changeAnswer r start end x)
-    change-none t = rw (twelve, ← same-kind, t)
+    pub change-none : unchanged (w .kind) ≡ true
+        → _≡_ {A = Located} (Unfound (record { number = 12; value = 0 })) (changeAnswer r start end x)
+    change-none t = rw (by-twelve, ← same-kind, t)
 
     pub change-found : unchanged (w .kind) ≡ false → _≡_ {A = Located} (Found w) (changeAnswer r start end x)
-    change-found t = rw (twelve, ← same-kind, t, clean-accepted r start end x w e .1)
+    change-found t = rw (by-twelve, ← same-kind, t, clean-accepted r start end x w e .1)
 
-  pub change-unfound : (why : Refusal) → Unfound why ≡ locatedClean r start end x → Unfound why ≡ changeAnswer r start end x
+  pub change-unfound : (why : Refusal) → Unfound why ≡ locatedClean r start end x
+      → Unfound why ≡ changeAnswer r start end x
   unfolding changeGrounds
-  change-unfound why e =
-      rw (verdict-first (formGrounds r start end x) (ground (same r (altered r start end x)) 12 0 ∷ []) why (clean-refused r start end x why e))
+  change-unfound why e = rw (verdict-first (formGrounds r start end x) twelve why (clean-refused r start end x why e))
 
   -- an allele that the tests let through, and one that they do not
   module _ (w : Stretches) (e : Found w ≡ changeAnswer r start end x) where
@@ -63,7 +70,7 @@ module _ (r : List ℕ) (start end : ℕ) (x : List ℕ) where
 
     clean : verdict (formGrounds r start end x) ≡ accepted
     unfolding changeGrounds
-    clean = verdict-fewer (formGrounds r start end x) (ground (same r (altered r start end x)) 12 0 ∷ []) (told .0)
+    clean = verdict-fewer (formGrounds r start end x) twelve (told .0)
 
     pub change-fits : Fits r start end x w
     change-fits = rw (told .1) (stretches-fit r start end x (clean-allele r start end x clean))
@@ -71,16 +78,16 @@ module _ (r : List ℕ) (start end : ℕ) (x : List ℕ) where
     form : formIn r start end x w ≡ normal r start end x
     form = rw (told .1) (stretches-join r start end x (clean-allele r start end x clean))
 
-    pub enters-allele : (b : List ℕ) (answer : Entered) (left : List ℕ) → EntersForm b (formIn r start end x w) answer left
-        → EntersAllele b r start end x answer left
+    pub enters-allele : (b : List ℕ) (answer : Entered) (left : List ℕ)
+        → EntersForm b (formIn r start end x w) answer left → EntersAllele b r start end x answer left
     unfolding EntersForm EntersAllele
     enters-allele b answer left p =
-        let f = normal r start end x in
-        keeps-as _ _ _ _ _ (verdict (roomGrounds b f (found b f))) _ _ (verdict-then (changeGrounds r start end x)
-        (roomGrounds b f (found b f)) (told .0))
+        let room = roomGrounds b (normal r start end x) (found b (normal r start end x)) in
+        keeps-as _ _ _ _ _ (verdict room) _ _ (verdict-then (changeGrounds r start end x) room (told .0))
         (subst (λ (g : Normal). EntersAs b g (found b g) answer left) form p)
 
-  pub enters-no-allele : (b : List ℕ) (why : Refusal) → Unfound why ≡ changeAnswer r start end x → EntersAllele b r start end x (Unentered why) b
+  pub enters-no-allele : (b : List ℕ) (why : Refusal) → Unfound why ≡ changeAnswer r start end x
+      → EntersAllele b r start end x (Unentered why) b
   unfolding EntersAllele
   enters-no-allele b why e =
       keeps-refused _ _ _ _ _ why (verdict-first (changeGrounds r start end x) _ why
@@ -88,14 +95,17 @@ module _ (r : List ℕ) (start end : ℕ) (x : List ℕ) where
 
   -- the image's grounds before the allele's
   module _ (b digest : List ℕ) where
-    pub enters-on : (answer : Entered) (left : List ℕ) → Accepted ≡ imageAnswer b digest r → EntersAllele b r start end x answer left
-        → Enters b digest r start end x answer left
+    pub enters-on : (answer : Entered) (left : List ℕ) → Accepted ≡ imageAnswer b digest r
+        → EntersAllele b r start end x answer left → Enters b digest r start end x answer left
     unfolding EntersAllele Enters entryGrounds
-    enters-on answer left e p = keeps-as _ _ _ _ _ _ _ _ (verdict-then (imageGrounds b digest r) _ (outcome-accepted _ e)) p
+    enters-on answer left e p =
+        keeps-as _ _ _ _ _ _ _ _ (verdict-then (imageGrounds b digest r) _ (outcome-accepted _ e)) p
 
-    pub enters-nothing : (why : Refusal) → Refused why ≡ imageAnswer b digest r → Enters b digest r start end x (Unentered why) b
+    pub enters-nothing : (why : Refusal) → Refused why ≡ imageAnswer b digest r
+        → Enters b digest r start end x (Unentered why) b
     unfolding Enters entryGrounds
-    enters-nothing why e = keeps-refused _ _ _ _ _ why (verdict-first (imageGrounds b digest r) _ why (outcome-refused _ why e))
+    enters-nothing why e =
+        keeps-refused _ _ _ _ _ why (verdict-first (imageGrounds b digest r) _ why (outcome-refused _ why e))
 
 pub image-formed : (b digest r : List ℕ) → Accepted ≡ imageAnswer b digest r → wellFormed b ≡ true
 unfolding imageGrounds
