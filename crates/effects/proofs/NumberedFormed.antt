@@ -10,7 +10,8 @@ use mathlib.Core.List.{List}
 use lib.ListN.{length}
 use Rattle.letters.specs.Letters.{residue, every}
 use Rattle.normal.specs.Form.{Normal}
-use Rattle.image.specs.Fields.{recordCapacity, issued, journalCapacity, journalCount, poolCapacity, poolUsed, referenceLength}
+use Rattle.image.specs.Fields.{recordCapacity, issued, journalCapacity, journalCount, poolCapacity, poolUsed}
+use Rattle.image.specs.Fields.{referenceLength}
 use Rattle.image.specs.Formed.{lengths, wellFormed}
 use Rattle.image.proofs.WellFormed.{FormedRecord, formed}
 use Rattle.effects.proofs.Seen.{Issues}
@@ -24,7 +25,8 @@ module _ (b c : List ℕ) (w : wellFormed b ≡ true) (f : Normal) (r : Issues b
   unfolding lengths
   lengths-all = rw (r .numbers, add-one (issued b), lengths-before, ← add-one (issued b), r .letters, r .used)
 
-  new-record : f .start ≤ f .end → f .end ≤ referenceLength b → every residue (f .replacement) ≡ true → FormedRecord c (issued b)
+  new-record : f .start ≤ f .end → f .end ≤ referenceLength b → every residue (f .replacement) ≡ true
+      → FormedRecord c (issued b)
   new-record order inside letters =
       record {
         ordered = rw (← add-one (issued b)) (omega (arith, r .start, r .end));
@@ -39,11 +41,15 @@ module _ (b c : List ℕ) (w : wellFormed b ≡ true) (f : Normal) (r : Issues b
       let g = formed b w in
       ⊎-elim
       (λ e. subst (FormedRecord c) (sym e) new)
-      (λ h. record-stays b c g (r .stays) k h (omega (arith, r .statuses (suc k) (omega arith) h, g .records k h .status)))
+      (λ h. let status = r .statuses (suc k) (omega arith) h in
+      record-stays b c g (r .stays) k h (omega (arith, status, g .records k h .status)))
       (eq-or-lt-of-le (let h : k ≤ issued b = omega (arith, r .numbers) in h))
 
-  pub issues-formed : f .start ≤ f .end → f .end ≤ referenceLength b → every residue (f .replacement) ≡ true → issued b < recordCapacity b
-      → journalCount b < journalCapacity b → poolUsed b + length (f .replacement) ≤ poolCapacity b → wellFormed c ≡ true
+  pub issues-formed : f .start ≤ f .end → f .end ≤ referenceLength b → every residue (f .replacement) ≡ true
+      → issued b < recordCapacity b
+      → journalCount b < journalCapacity b
+      → poolUsed b + length (f .replacement) ≤ poolCapacity b
+      → wellFormed c ≡ true
   issues-formed order inside letters records journal pool =
       let g = formed b w in
       let s = r .stays in

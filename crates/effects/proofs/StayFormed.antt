@@ -9,7 +9,8 @@ use mathlib.Core.List.{List}
 use lib.Dec.{eqb}
 use borrow.Author.Tests.{eqb-true, eqb-false}
 use Rattle.stretch.proofs.Cases.{by-cases}
-use Rattle.image.specs.Fields.{recordCapacity, issued, journalCapacity, journalCount, poolCapacity, poolUsed, statusOf, entryOf}
+use Rattle.image.specs.Fields.{recordCapacity, issued, journalCapacity, journalCount, poolCapacity, poolUsed}
+use Rattle.image.specs.Fields.{statusOf, entryOf}
 use Rattle.image.specs.Formed.{lengths, wellFormed}
 use Rattle.image.specs.Header.{Header}
 use Rattle.image.proofs.Lengths.{lengths-same}
@@ -40,7 +41,8 @@ module _ (b c : List ℕ) (f : Formed b) (s : Stays b c) where
       record { some = omega (arith, same, e .some); numbered = omega (arith, same, e .numbered) }
 
   -- new counts within the old capacities
-  pub header-stays : issued c ≤ recordCapacity b → journalCount c ≤ journalCapacity b → poolUsed c ≤ poolCapacity b → Header c
+  pub header-stays : issued c ≤ recordCapacity b → journalCount c ≤ journalCapacity b → poolUsed c ≤ poolCapacity b
+      → Header c
   header-stays i j p =
       let h = f .header in
       let frame = s .frame in
@@ -73,8 +75,11 @@ module _ (b c : List ℕ) (f : Formed b) (s : Stays b c) where
       well-formed c image
 
   -- with the numbers as they were
-  same-numbers-formed : issued c ≡ issued b → poolUsed c ≡ poolUsed b → ((k : ℕ) → k < issued b → statusOf c (suc k) ≤ 1)
-      → journalCount c ≤ journalCapacity b → ((j : ℕ) → j < journalCount c → FormedEntry c j) → wellFormed c ≡ true
+  same-numbers-formed : issued c ≡ issued b → poolUsed c ≡ poolUsed b
+      → ((k : ℕ) → k < issued b → statusOf c (suc k) ≤ 1)
+      → journalCount c ≤ journalCapacity b
+      → ((j : ℕ) → j < journalCount c → FormedEntry c j)
+      → wellFormed c ≡ true
   same-numbers-formed numbers used statuses count entries =
       stay-formed
       (header-stays (omega (arith, numbers, f .header .records)) count (omega (arith, used, f .header .used)))
@@ -98,12 +103,14 @@ module _ (b c : List ℕ) (w : wellFormed b ≡ true) where
       (λ e. subst (λ (j : ℕ). statusOf c j ≤ 1) (sym (eqb-true (suc k) i e)) (omega (arith, r .now)))
       (λ e. omega (arith, r .others (suc k) (omega arith) l (eqb-false (suc k) i e), formed b w .records k l .status))
 
-  pub journalled-formed : (i s : ℕ) → Journalled b c i s → s ≤ 1 → 1 ≤ i → i ≤ issued b → journalCount b < journalCapacity b → wellFormed c ≡ true
+  pub journalled-formed : (i s : ℕ) → Journalled b c i s → s ≤ 1 → 1 ≤ i → i ≤ issued b
+      → journalCount b < journalCapacity b → wellFormed c ≡ true
   journalled-formed i s r t some numbered room =
       let f = formed b w in
       let now = r .restated in
-      same-numbers-formed b c f (now .stays) (now .numbers) (now .used) (restated-status i s now t) (omega (arith, r .count))
-      (entries-next b c f (now .stays) i some (omega (arith, now .numbers)) (omega (arith, now .numbers)) (r .count) (r .last))
+      let same = now .numbers in
+      same-numbers-formed b c f (now .stays) same (now .used) (restated-status i s now t) (omega (arith, r .count))
+      (entries-next b c f (now .stays) i some (omega (arith, same)) (omega (arith, same)) (r .count) (r .last))
 
   pub taken-back-formed : (i s : ℕ) → TakenBack b c i s → s ≤ 1 → wellFormed c ≡ true
   taken-back-formed i s r t =

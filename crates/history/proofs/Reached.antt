@@ -78,7 +78,7 @@ module _ (b : List ℕ) (n : ℕ) (digest : List ℕ) (records journal pool : �
         let e : blank ≡ c = rw v at (p .leaves) in
         rw e (record {
           state = record {
-            formed = fresh-formed (length b) n digest records journal pool k c s;
+            formed = fresh-formed k s;
             proper = λ i l. absurd (none i l);
           };
           inv = inv-empty (shows r c) none (s .count);
