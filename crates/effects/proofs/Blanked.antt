@@ -7,11 +7,11 @@ use lib.ListN.{length, getD, take, length-append}
 use lib.Seq.{drop-at, take-length}
 use Rattle.stretch.proofs.Over.{length-over}
 use Rattle.stretch.proofs.Through.{part-laid}
+use Rattle.refusal.specs.Limits.{referenceLimit}
 use Rattle.image.specs.Numbers.{number, numbers}
 use Rattle.image.specs.Fields.{headerSize, countLimit, poolLimit, journalPlace, poolPlace, imageSize, sequenceDigest, headerOf}
 use Rattle.image.proofs.Patched.{length-numbers, number-laid, number-first, number-numbers}
 use Rattle.changes.specs.Changes.{blanked}
-use Rattle.blank.proofs.BlankTests.{Blankable}
 use Rattle.effects.proofs.Seen.{Fresh}
 
 -- the numbers of the header
@@ -60,11 +60,11 @@ module _ (b : List ℕ) (n : ℕ) (digest : List ℕ) (records journal pool : �
       ∙ take-length digest
 
 pub blanked-seen : (b : List ℕ) (n : ℕ) (digest : List ℕ) (records journal pool : ℕ)
-    → Blankable (length b) n digest records journal pool
+    → length digest ≡ 32 → records ≤ countLimit → journal ≤ countLimit → pool ≤ poolLimit → n ≤ referenceLimit
+    → imageSize records journal pool ≤ length b
     → Fresh (length b) n digest records journal pool (blanked b n digest records journal pool)
-blanked-seen b n digest records journal pool k =
-    let whole = k .long in
-    let room : headerSize ≤ length b = omega (arith, k .fits) in
+blanked-seen b n digest records journal pool whole r j p l size =
+    let room : headerSize ≤ length b = omega arith in
     let read = blanked-number b n digest records journal pool whole room in
     record {
       long = blanked-long b n digest records journal pool whole room;

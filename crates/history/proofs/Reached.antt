@@ -12,8 +12,7 @@ use Rattle.refusal.specs.Verdict.{verdict}
 use Rattle.changes.specs.Changes.{blanked}
 use Rattle.blank.specs.Calls.{Blanks, blankGrounds}
 use Rattle.blank.proofs.BlankTests.{blankable}
-use Rattle.effects.proofs.Blanked.{blanked-seen}
-use Rattle.effects.proofs.BlankedFormed.{fresh-formed}
+use Rattle.effects.proofs.BlankedFormed.{blankable-seen, blankable-formed}
 use Rattle.numbering.specs.Found.{Way}
 use Rattle.history.specs.Events.{Event, entry, undo}
 use Rattle.history.specs.Runs.{Call, Run, no-calls, _then_}
@@ -73,12 +72,12 @@ module _ (b : List ℕ) (n : ℕ) (digest : List ℕ) (records journal pool : �
         let v = outcome-accepted (verdict (blankGrounds (length b) n digest records journal pool)) (p .answers) in
         let k = blankable (length b) n digest records journal pool v in
         let c = blanked b n digest records journal pool in
-        let s = blanked-seen b n digest records journal pool k in
+        let s = blankable-seen b n digest records journal pool k in
         let none : (i : ℕ) → Live c i → ⊥ = λ i l. omega (arith, l .from, l .to, s .numbers) in
         let e : blank ≡ c = rw v at (p .leaves) in
         rw e (record {
           state = record {
-            formed = fresh-formed k s;
+            formed = blankable-formed b n digest records journal pool k;
             proper = λ i l. absurd (none i l);
           };
           inv = inv-empty (shows r c) none (s .count);
