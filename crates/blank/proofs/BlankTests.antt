@@ -11,7 +11,8 @@ use Rattle.refusal.specs.declared.Refusal.{Refusal}
 use Rattle.refusal.specs.declared.Outcome.the-variants.{Accepted, Refused}
 use Rattle.refusal.specs.Verdict.{ground, accepted, verdict}
 use Rattle.refusal.proofs.Verdict.{none-holds, verdict-first, verdict-then, verdict-fewer, verdict-later, outcome-accepted, outcome-refused}
-use Rattle.letters.specs.Letters.{base64url, every, digestTextGrounds, digestTextAnswer}
+use Rattle.stretch.specs.Class.{every}
+use Rattle.letters.specs.Letters.{base64url, digestTextGrounds, digestTextAnswer}
 use Rattle.letters.proofs.DigestText.{digest-long, digest-all}
 use Rattle.image.specs.Fields.{countLimit, poolLimit, imageSize}
 use Rattle.blank.specs.Calls.{capacityGrounds, blankGrounds}

@@ -12,9 +12,11 @@ use Rattle.refusal.specs.declared.Outcome.the-variants.{Accepted}
 use Rattle.refusal.specs.declared.Written.{Written}
 use Rattle.refusal.specs.Verdict.{accepted, verdict}
 use Rattle.refusal.proofs.Verdict.{none-holds, outcome-accepted}
-use Rattle.letters.specs.Letters.{residue, every, foreign}
-use Rattle.letters.proofs.Class.{every-append, every-front}
-use Rattle.letters.proofs.Outside.{foreign-le, foreign-none, firstOutside-every}
+use Rattle.stretch.specs.Class.{every}
+use Rattle.letters.specs.Letters.{residue, foreign}
+use Rattle.stretch.proofs.Class.{every-append, every-front}
+use Rattle.stretch.proofs.Outside.{firstOutside-every}
+use Rattle.letters.proofs.Foreign.{foreign-le, foreign-none}
 use Rattle.sha512.specs.declared.Running.{Running}
 use Rattle.sha512.specs.Parts.{begun, joined}
 use Rattle.sha512.proofs.Join.{Fed, fed-begun, fed-on, finished-is}

@@ -8,7 +8,8 @@ use mathlib.Core.Path.{_≡_, _∙_, sym, subst}
 use mathlib.Core.Bool.{true}
 use mathlib.Core.List.{List}
 use lib.ListN.{length}
-use Rattle.letters.specs.Letters.{residue, every}
+use Rattle.stretch.specs.Class.{every}
+use Rattle.letters.specs.Letters.{residue}
 use Rattle.normal.specs.Form.{Normal}
 use Rattle.image.specs.Fields.{recordCapacity, issued, journalCapacity, journalCount, poolCapacity, poolUsed}
 use Rattle.image.specs.Fields.{referenceLength}

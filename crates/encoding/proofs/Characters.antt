@@ -7,8 +7,9 @@ use mathlib.Core.List.{List}
 use lib.ListN.{length, getD, take}
 use Rattle.stretch.specs.Below.{below}
 use Rattle.stretch.proofs.Below.{below-at}
-use Rattle.letters.specs.Letters.{base64url, every}
-use Rattle.letters.proofs.Class.{every-append}
+use Rattle.stretch.specs.Class.{every}
+use Rattle.letters.specs.Letters.{base64url}
+use Rattle.stretch.proofs.Class.{every-append}
 use Rattle.sha512.specs.Message.{sha512}
 use Rattle.sha512.proofs.Bytes.{length-sha512, sha512-bytes}
 use Rattle.encoding.specs.Base64.{character, group, encoded}

@@ -10,7 +10,8 @@ use Rattle.stretch.specs.Same.{same}
 use Rattle.refusal.specs.Verdict.{Verdict, accepted, verdict}
 use Rattle.refusal.specs.Grounds.{outputTooShort}
 use Rattle.refusal.proofs.Verdict.{verdict-then}
-use Rattle.letters.specs.Letters.{residue, firstOutside}
+use Rattle.stretch.specs.Class.{firstOutside}
+use Rattle.letters.specs.Letters.{residue}
 use Rattle.normal.specs.Form.{altered, shorter, within, ahead, behind, kindIn, kindOf, changedForm, normal}
 use Rattle.normal.specs.Worked.{Case, cases}
 use Rattle.normal.proofs.Worked.{formed, worked}

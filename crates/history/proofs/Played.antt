@@ -5,7 +5,8 @@ use Rattle.stretch.specs.Common.{lcp, lcs}
 use Rattle.stretch.specs.Over.{over}
 use Rattle.stretch.specs.Same.{same}
 use Rattle.refusal.specs.declared.Outcome.the-variants.{Accepted}
-use Rattle.letters.specs.Letters.{residue, base64url, every, firstOutside, digestTextGrounds}
+use Rattle.stretch.specs.Class.{every, firstOutside}
+use Rattle.letters.specs.Letters.{residue, base64url, digestTextGrounds}
 use Rattle.normal.specs.Form.{altered, shorter, within, ahead, behind, kindIn, kindOf, changedForm, normal}
 use Rattle.forming.specs.Calls.{formGrounds}
 use Rattle.image.specs.Numbers.{little, bytes, number, numbers, put}

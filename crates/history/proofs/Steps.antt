@@ -10,14 +10,14 @@ use borrow.Author.Tests.{leb-false, ltb-false}
 use Rattle.refusal.specs.Verdict.{Ground, Verdict, accepted, refused, verdict}
 use Rattle.refusal.specs.declared.Refusal.{Refusal}
 use Rattle.refusal.proofs.Verdict.{none-holds, verdict-later}
-use Rattle.letters.specs.Letters.{residue, every, foreign, foreignNormal}
-use Rattle.letters.proofs.Outside.{foreign-le, foreign-none}
+use Rattle.letters.specs.Letters.{residue, foreign, foreignNormal}
+use Rattle.stretch.specs.Class.{every}
+use Rattle.letters.proofs.Foreign.{foreign-le, foreign-none}
 use Rattle.normal.specs.Form.{Allele, Normal, altered, normal}
 use Rattle.normal.proofs.Laws.{normal-ordered, normal-inside}
 use Rattle.forming.specs.Calls.{givenGrounds, formGrounds}
 use Rattle.forming.proofs.Answers.{clean-allele}
-use Rattle.image.specs.Fields.{issued, recordCapacity, journalCount, journalCapacity, poolUsed, poolCapacity}
-use Rattle.image.specs.Fields.{referenceLength, statusOf, entryOf, active, inactive}
+use Rattle.image.specs.Fields.{issued, recordCapacity, journalCount, journalCapacity, poolUsed, poolCapacity, referenceLength, statusOf, entryOf, active, inactive}
 use Rattle.image.specs.Formed.{wellFormed}
 use Rattle.image.proofs.WellFormed.{FormedEntry, Formed, formed}
 use Rattle.image.proofs.Lengths.{formed-inside}
@@ -39,8 +39,7 @@ use Rattle.history.specs.Demand.{Live, sequenceOf}
 use Rattle.history.proofs.View.{Moves}
 use Rattle.history.proofs.Proper.{Proper, has-stands, has-proper, proper-has}
 use Rattle.history.proofs.Found.{Match, Unmatched, Finding, active-as, withdrawn-as, nowhere, finding}
-use Rattle.history.proofs.Shows.{shows, live-back, stays-proper, restated-keeps, journalled-changes}
-use Rattle.history.proofs.Shows.{closed-sealed, issues-cases, issues-changes, issues-has}
+use Rattle.history.proofs.Shows.{shows, live-back, stays-proper, restated-keeps, journalled-changes, closed-sealed, issues-cases, issues-changes, issues-has}
 use Rattle.history.proofs.Passed.{Withdrawable, withdrawable, undoable, Enterable, enterable}
 
 zero-or-one : (s : ℕ) → s ≤ 1 → (s ≡ 0) ⊎ (s ≡ 1)

@@ -11,7 +11,7 @@ use Rattle.refusal.specs.Limits.{sequenceLimit}
 use Rattle.refusal.proofs.Verdict.{none-holds, verdict-fewer, verdict-later}
 use Rattle.refusal.proofs.Says.{Said, says-said}
 use Rattle.letters.specs.Letters.{foreign, digestTextGrounds, foreignNormal}
-use Rattle.letters.proofs.Outside.{foreign-le, foreign-none}
+use Rattle.letters.proofs.Foreign.{foreign-le, foreign-none}
 use Rattle.normal.specs.Form.{Allele, Normal, normal}
 use Rattle.normal.proofs.Laws.{normal-short}
 use Rattle.forming.specs.Calls.{givenGrounds}

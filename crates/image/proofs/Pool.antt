@@ -13,8 +13,9 @@ use lib.Seq.{take-add, drop-drop}
 use Rattle.stretch.specs.Below.{below}
 use Rattle.stretch.specs.Part.{part}
 use Rattle.stretch.proofs.Below.{below-at, below-first, below-fails}
-use Rattle.letters.specs.Letters.{residue, every}
-use Rattle.letters.proofs.Class.{every-append}
+use Rattle.stretch.specs.Class.{every}
+use Rattle.letters.specs.Letters.{residue}
+use Rattle.stretch.proofs.Class.{every-append}
 use Rattle.image.specs.Numbers.{number}
 use Rattle.image.specs.Fields.{issued, poolUsed, recordAt, poolAt, referenceLength, startOf, endOf, offsetOf, lengthOf, statusOf, replacementOf}
 use Rattle.image.specs.Formed.{all, lengths, recordGood}

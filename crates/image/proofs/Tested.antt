@@ -7,7 +7,8 @@ use lib.Dec.{leb, eqb}
 use lib.ListN.{length}
 use borrow.Author.Tests.{leb-true, eqb-true}
 use Rattle.stretch.specs.Below.{below}
-use Rattle.letters.specs.Letters.{base64url, every}
+use Rattle.stretch.specs.Class.{every}
+use Rattle.letters.specs.Letters.{base64url}
 use Rattle.image.specs.Fields.{headerSize, edition, issued, recordsAt, journalCount, poolCapacity, poolUsed, poolAt, sequenceDigest}
 use Rattle.image.specs.Formed.{all, laidOut, countsWithin, withinLimits, lengths, recordGood, entryGood, wellFormed}
 use Rattle.image.specs.Header.{Header}

@@ -7,8 +7,8 @@ use borrow.Author.Tests.{eqb-true, eq-eqb}
 use lib.Dec.{eqb}
 use lib.ListN.{length}
 use Rattle.stretch.proofs.Cases.{by-cases}
-use Rattle.letters.specs.Letters.{every, firstOutside}
-use Rattle.letters.proofs.Outside.{firstOutside-all, firstOutside-every}
+use Rattle.stretch.specs.Class.{every, firstOutside}
+use Rattle.stretch.proofs.Outside.{firstOutside-all, firstOutside-every}
 use Rattle.image.specs.Formed.{all}
 
 pub all-two : (p q : Bool) → p && q ≡ all (p ∷ q ∷ [])

@@ -6,7 +6,8 @@ use lib.Dec.{leb, eqb}
 use lib.ListN.{length}
 use Rattle.stretch.specs.Below.{below}
 use Rattle.refusal.specs.Limits.{referenceLimit}
-use Rattle.letters.specs.Letters.{residue, base64url, every}
+use Rattle.stretch.specs.Class.{every}
+use Rattle.letters.specs.Letters.{residue, base64url}
 use Rattle.image.specs.Fields.{headerSize, countLimit, poolLimit, journalPlace, poolPlace, edition, recordCapacity, issued, recordsAt, journalCapacity, journalCount, journalAt, poolCapacity, poolUsed, poolAt, referenceLength, sequenceDigest, startOf, endOf, offsetOf, lengthOf, statusOf, replacementOf, entryOf}
 
 -- all of the tests pass

@@ -24,7 +24,8 @@ ghost use mathlib.Core.List.{[], _∷_};
 ghost use Prim.Native.Nat.{_+_, _≤_};
 ghost use lib.Dec.{leb};
 ghost use lib.ListN.{length};
-ghost use Rattle.letters.specs.Letters.{base64url, every};
+ghost use Rattle.stretch.specs.Class.{every};
+ghost use Rattle.letters.specs.Letters.{base64url};
 ghost use Rattle.image.specs.Fields.{headerSize, poolAt, poolCapacity, sequenceDigest};
 ghost use Rattle.image.specs.Formed.{all, laidOut, countsWithin, withinLimits};
 

@@ -9,8 +9,9 @@ use lib.ListN.{length}
 use borrow.Author.Tests.{eqb-true, ltb-false, not-false}
 use Rattle.refusal.specs.Verdict.{accepted, verdict}
 use Rattle.refusal.proofs.Verdict.{none-holds}
-use Rattle.letters.specs.Letters.{base64url, every, firstOutside, digestTextGrounds}
-use Rattle.letters.proofs.Outside.{firstOutside-le, firstOutside-all}
+use Rattle.stretch.specs.Class.{every, firstOutside}
+use Rattle.letters.specs.Letters.{base64url, digestTextGrounds}
+use Rattle.stretch.proofs.Outside.{firstOutside-le, firstOutside-all}
 
 module _ (d : List ℕ) (v : verdict (digestTextGrounds d) ≡ accepted) where
   pub digest-long : length d ≡ 32

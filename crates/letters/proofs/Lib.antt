@@ -1,5 +1,4 @@
-pub mod Class
-pub mod Outside
+pub mod Foreign
 pub mod Ranges
 pub mod DigestText
 pub mod Promises

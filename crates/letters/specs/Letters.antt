@@ -1,10 +1,11 @@
 -- Document 01's letters and characters: residues, the base64url alphabet (RFC 4648 section 5), and the check of a digest text.
-use Prim.Native.Nat.{ℕ, suc}
+use Prim.Native.Nat.{ℕ}
 use mathlib.Core.Bool.{Bool, true, false, not, cond}
 use mathlib.Core.List.{List, [], _∷_}
 use lib.Dec.{leb, ltb, eqb}
 use lib.ListN.{length}
 use Rattle.stretch.specs.Ascii.{ascii}
+use Rattle.stretch.specs.Class.{firstOutside}
 use Rattle.refusal.specs.Verdict.{Ground, ground, verdict, tell}
 use Rattle.refusal.specs.declared.Outcome.{Outcome}
 use Rattle.refusal.specs.declared.Outcome.the-variants.{Accepted, Refused}
@@ -25,16 +26,6 @@ occurs c (x ∷ xs) = cond (eqb c x) true (occurs c xs)
 -- a base64url character
 unfoldable pub base64url : ℕ → Bool
 base64url c = occurs c alphabet
-
--- each of them is in a class
-unfoldable pub every : (ℕ → Bool) → List ℕ → Bool
-every p [] = true
-every p (x ∷ xs) = cond (p x) (every p xs) false
-
--- the offset of the first byte outside a class, or the length where there is none
-unfoldable pub firstOutside : (ℕ → Bool) → List ℕ → ℕ
-firstOutside p [] = 0
-firstOutside p (x ∷ xs) = cond (p x) (suc (firstOutside p xs)) 0
 
 -- the offset of the first foreign byte
 abbrev pub foreign : List ℕ → ℕ

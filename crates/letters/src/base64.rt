@@ -2,7 +2,8 @@
 use refusal::Outcome;
 use refusal::refuse;
 ghost use mathlib.Core.Path.{_≡_};
-ghost use Rattle.letters.specs.Letters.{base64url, firstOutside, digestTextAnswer};
+ghost use Rattle.stretch.specs.Class.{firstOutside};
+ghost use Rattle.letters.specs.Letters.{base64url, digestTextAnswer};
 
 fn is_base64url(c: u8) -> bool
     ensures { λ r. ⌜ r ≡ base64url c ⌝ }

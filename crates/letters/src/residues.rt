@@ -2,7 +2,8 @@
 ghost use mathlib.Core.Path.{_≡_};
 ghost use Prim.Native.Nat.{_+_, _≤_};
 ghost use lib.ListN.{length, drop};
-ghost use Rattle.letters.specs.Letters.{residue, foreign, every};
+ghost use Rattle.stretch.specs.Class.{every};
+ghost use Rattle.letters.specs.Letters.{residue, foreign};
 
 // How many bytes are tested before one of them is looked for.
 const BLOCK: usize = 1024;

@@ -13,7 +13,7 @@ use Rattle.stretch.specs.Part.{part}
 use Rattle.stretch.proofs.Cases.{by-cases}
 use Rattle.stretch.proofs.Tail.{lent-tail}
 use Rattle.stretch.proofs.Wrote.{wrote-front}
-use Rattle.letters.proofs.Outside.{firstOutside-le}
+use Rattle.stretch.proofs.Outside.{firstOutside-le}
 use Rattle.saying.specs.Cut.{parted, other, firstOf, nextOf}
 use Rattle.saying.specs.Said.{lineFeed}
 use Rattle.saying.proofs.Cutting.{next-le, parted-cut, parted-one, parted-next, parted-last}

@@ -3,7 +3,8 @@ use mathlib.Core.Path.{_≡_, refl}
 use Rattle.stretch.specs.Ascii.{ascii}
 use Rattle.stretch.specs.Common.{lcp, lcs}
 use Rattle.stretch.specs.Same.{same}
-use Rattle.letters.specs.Letters.{residue, firstOutside}
+use Rattle.stretch.specs.Class.{firstOutside}
+use Rattle.letters.specs.Letters.{residue}
 use Rattle.normal.specs.Form.{altered, shorter, within, ahead, behind, kindIn, kindOf, changedForm, normal}
 use Rattle.forming.specs.Calls.{formGrounds}
 use Rattle.decimals.specs.Decimal.{decimalIn, enough, decimal}

@@ -8,7 +8,8 @@ use Rattle.stretch.specs.Part.{part}
 use Rattle.stretch.proofs.Interval.{length-part}
 use Rattle.stretch.proofs.Join.{length-three}
 use Rattle.letters.specs.Letters.{residue, foreign}
-use Rattle.letters.proofs.Outside.{foreign-le, foreign-none, firstOutside-past, firstOutside-within}
+use Rattle.stretch.proofs.Outside.{firstOutside-past, firstOutside-within}
+use Rattle.letters.proofs.Foreign.{foreign-le, foreign-none}
 use Rattle.normal.specs.declared.Stretches.{Stretches}
 use Rattle.normal.specs.Stretches.{Fits, joined}
 

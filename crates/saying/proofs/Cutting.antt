@@ -11,8 +11,8 @@ use lib.Seq.{drop-cons, drop-drop}
 use borrow.Author.Tests.{eq-eqb, ne-eqb}
 use Rattle.stretch.specs.Part.{part}
 use Rattle.stretch.proofs.Cases.{by-cases}
-use Rattle.letters.specs.Letters.{firstOutside}
-use Rattle.letters.proofs.Outside.{firstOutside-le}
+use Rattle.stretch.specs.Class.{firstOutside}
+use Rattle.stretch.proofs.Outside.{firstOutside-le}
 use Rattle.saying.specs.Cut.{parted, other, firstOf, nextOf}
 
 module _ (mark : ℕ) (s : List ℕ) where

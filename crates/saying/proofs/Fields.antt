@@ -12,7 +12,7 @@ use Rattle.stretch.specs.Ascii.{ascii}
 use Rattle.stretch.specs.Part.{part}
 use Rattle.stretch.specs.Same.{same}
 use Rattle.stretch.proofs.Same.{same-lengths}
-use Rattle.letters.proofs.Outside.{firstOutside-le}
+use Rattle.stretch.proofs.Outside.{firstOutside-le}
 use Rattle.decimals.specs.Number.{numberOf}
 use Rattle.saying.specs.declared.Line.the-variants.{Unread}
 use Rattle.saying.specs.Cut.{parted, other, firstOf, nextOf}

@@ -4,7 +4,7 @@ use mathlib.Core.Bool.{Bool, not, cond}
 use mathlib.Core.List.{List, [], _∷_}
 use lib.Dec.{eqb}
 use lib.ListN.{drop}
-use Rattle.letters.specs.Letters.{firstOutside}
+use Rattle.stretch.specs.Class.{firstOutside}
 
 -- c put on the front of the first piece
 abbrev pub onFirst : ℕ → List (List ℕ) → List (List ℕ)

@@ -1,9 +1,11 @@
 pub mod Below
 pub mod BigEndian
 pub mod Cases
+pub mod Class
 pub mod Common
 pub mod Interval
 pub mod Join
+pub mod Outside
 pub mod Over
 pub mod Same
 pub mod Shared

@@ -12,9 +12,10 @@ use borrow.Author.Tests.{ltb-true, ltb-false}
 use Rattle.stretch.specs.Common.{lcp}
 use Rattle.stretch.proofs.Cases.{by-cases}
 use Rattle.stretch.proofs.Common.{lcp-le-left, lcp-le-right, lcp-take, lcp-past}
-use Rattle.letters.specs.Letters.{residue, base64url, every, firstOutside, foreign}
-use Rattle.letters.proofs.Class.{every-append, every-front}
-use Rattle.letters.proofs.Outside.{firstOutside-le, firstOutside-take, firstOutside-max}
+use Rattle.stretch.specs.Class.{every, firstOutside}
+use Rattle.letters.specs.Letters.{residue, base64url, foreign}
+use Rattle.stretch.proofs.Class.{every-append, every-front}
+use Rattle.stretch.proofs.Outside.{firstOutside-le, firstOutside-take, firstOutside-max}
 use Rattle.words.specs.Prefix.{Begins}
 use Rattle.words.specs.Vocabulary.{Word, Digest, Letters}
 use Rattle.words.specs.Walk.{Goes, Stops}

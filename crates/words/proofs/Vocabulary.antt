@@ -6,8 +6,9 @@ use mathlib.Core.Bool.{true, false}
 use mathlib.Core.List.{List, [], _∷_, _++_}
 use lib.ListN.{length, getD, replicate, length-append, List·getD-append}
 use lib.Seq.{append-snoc, getD-at}
-use Rattle.letters.specs.Letters.{residue, base64url, every}
-use Rattle.letters.proofs.Class.{every-at}
+use Rattle.stretch.specs.Class.{every}
+use Rattle.letters.specs.Letters.{residue, base64url}
+use Rattle.stretch.proofs.Class.{every-at}
 use Rattle.decimals.specs.Decimal.{decimal}
 use Rattle.decimals.proofs.Digits.{decimal-digits}
 use Rattle.words.specs.Prefix.{Begins}

@@ -4,7 +4,8 @@ use mathlib.Core.Path.{_≡_}
 use mathlib.Core.Bool.{true}
 use mathlib.Core.List.{List}
 use lib.ListN.{length}
-use Rattle.letters.specs.Letters.{residue, base64url, every}
+use Rattle.stretch.specs.Class.{every}
+use Rattle.letters.specs.Letters.{residue, base64url}
 use Rattle.decimals.specs.Decimal.{decimal}
 
 -- this one alone

@@ -3,7 +3,8 @@ use borrow.Author.Needs.{needs}
 use Prim.Native.Nat.{_+_}
 use lib.Dec.{leb}
 use lib.ListN.{length}
-use Rattle.letters.specs.Letters.{base64url, every}
+use Rattle.stretch.specs.Class.{every}
+use Rattle.letters.specs.Letters.{base64url}
 use Rattle.image.specs.Fields.{poolAt, poolCapacity, sequenceDigest}
 use Rattle.image.specs.Formed.{laidOut, countsWithin, withinLimits}
 use Rattle.image.proofs.Tests.{all-five}

@@ -5,8 +5,9 @@ use mathlib.Core.Path.{_≡_, _∙_, sym}
 use lib.ListN.{length, drop}
 use borrow.Author.Needs.{needs}
 use borrow.Author.Tests.{not-true, not-false}
-use Rattle.letters.specs.Letters.{base64url, firstOutside}
-use Rattle.letters.proofs.Outside.{firstOutside-on, firstOutside-here, firstOutside-end}
+use Rattle.stretch.specs.Class.{firstOutside}
+use Rattle.letters.specs.Letters.{base64url}
+use Rattle.stretch.proofs.Outside.{firstOutside-on, firstOutside-here, firstOutside-end}
 use Rattle.letters.proofs.base64.first_outside_base64url.Statement.{statement}
 use Rattle.letters.proofs.base64.first_outside_base64url.Tie as tie
 

@@ -5,8 +5,9 @@ use mathlib.Core.Path.{_≡_, refl, _∙_, sym}
 use mathlib.Core.Bool.{false, cond}
 use lib.ListN.{length, drop}
 use borrow.Author.Needs.{needs}
-use Rattle.letters.specs.Letters.{residue, every}
-use Rattle.letters.proofs.Class.{every-on, every-end}
+use Rattle.stretch.specs.Class.{every}
+use Rattle.letters.specs.Letters.{residue}
+use Rattle.stretch.proofs.Class.{every-on, every-end}
 use Rattle.letters.proofs.residues.all_residues.Statement.{statement}
 use Rattle.letters.proofs.residues.all_residues.Tie as tie
 

@@ -6,7 +6,7 @@ use lib.ListN.{length, drop}
 use borrow.Author.Needs.{needs}
 use borrow.Author.Tests.{not-false}
 use Rattle.letters.specs.Letters.{residue, foreign}
-use Rattle.letters.proofs.Outside.{firstOutside-block, firstOutside-rest}
+use Rattle.stretch.proofs.Outside.{firstOutside-block, firstOutside-rest}
 use Rattle.letters.proofs.residues.clean_blocks.Statement.{statement}
 use Rattle.letters.proofs.residues.clean_blocks.Tie as tie
 

@@ -6,7 +6,7 @@ use lib.ListN.{length, drop}
 use borrow.Author.Needs.{needs}
 use borrow.Author.Tests.{not-true, not-false}
 use Rattle.letters.specs.Letters.{residue, foreign}
-use Rattle.letters.proofs.Outside.{firstOutside-on, firstOutside-here, firstOutside-end}
+use Rattle.stretch.proofs.Outside.{firstOutside-on, firstOutside-here, firstOutside-end}
 use Rattle.letters.proofs.residues.first_foreign.Statement.{statement}
 use Rattle.letters.proofs.residues.first_foreign.Tie as tie
 

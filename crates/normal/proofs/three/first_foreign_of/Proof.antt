@@ -2,7 +2,7 @@
 use native.Mathlib.Omega.{arith}
 use mathlib.Core.Path.{_∙_}
 use borrow.Author.Needs.{needs}
-use Rattle.letters.proofs.Outside.{foreign-le}
+use Rattle.letters.proofs.Foreign.{foreign-le}
 use Rattle.normal.proofs.Joined.{foreign-first, foreign-second, foreign-third}
 use Rattle.normal.proofs.three.first_foreign_of.Statement.{statement}
 use Rattle.normal.proofs.three.first_foreign_of.Tie as tie

@@ -8,9 +8,9 @@ use mathlib.Core.Bool.{Bool, true, false}
 use mathlib.Core.List.{List, [], _∷_, _++_}
 use lib.ListN.{length, getD, take, drop, length-drop, take-append-drop, drop-of-length-le}
 use lib.Seq.{drop-cons, drop-drop, length-take-le}
+use Rattle.stretch.specs.Class.{every, firstOutside}
 use Rattle.stretch.proofs.Cases.{by-cases}
 use Rattle.stretch.proofs.Tail.{lent-tail}
-use Rattle.letters.specs.Letters.{residue, every, firstOutside, foreign}
 
 module _ (p : ℕ → Bool) where
   pub firstOutside-le : (s : List ℕ) → firstOutside p s ≤ length s
@@ -88,9 +88,3 @@ module _ (p : ℕ → Bool) where
   firstOutside-rest s i h e inv =
       inv
       ∙ rw (firstOutside-every (drop i s) (rw (lent-tail s i) at e), length-drop i s, drop-of-length-le s {i = length s} (omega arith)) (omega arith)
-
-pub foreign-le : (s : List ℕ) → foreign s ≤ length s
-foreign-le = firstOutside-le residue
-
-pub foreign-none : (s : List ℕ) → foreign s ≡ length s → every residue s ≡ true
-foreign-none = firstOutside-all residue

@@ -7,8 +7,8 @@ use mathlib.Core.Bool.{Bool, true, false, cond, _&&_}
 use mathlib.Core.List.{List, [], _∷_, _++_}
 use lib.ListN.{length, getD, drop, drop-of-length-le}
 use lib.Seq.{drop-cons}
+use Rattle.stretch.specs.Class.{every}
 use Rattle.stretch.proofs.Cases.{by-cases}
-use Rattle.letters.specs.Letters.{every}
 
 module _ (p : ℕ → Bool) where
   pub every-append : (xs ys : List ℕ) → every p (xs ++ ys) ≡ cond (every p xs) (every p ys) false
