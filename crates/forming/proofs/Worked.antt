@@ -11,7 +11,7 @@ use Rattle.refusal.specs.Verdict.{Verdict, accepted, verdict}
 use Rattle.refusal.specs.Grounds.{outputTooShort}
 use Rattle.refusal.proofs.Verdict.{verdict-then}
 use Rattle.stretch.specs.Class.{firstOutside}
-use Rattle.letters.specs.Letters.{residue}
+use Rattle.letters.specs.Letters.{letter, residue}
 use Rattle.normal.specs.Form.{altered, shorter, within, ahead, behind, kindIn, kindOf, changedForm, normal}
 use Rattle.normal.specs.Worked.{Case, cases}
 use Rattle.normal.proofs.Worked.{formed, worked}
@@ -25,7 +25,7 @@ judged c = verdict (formGrounds (c .reference) (c .start) (c .end) (c .replaceme
 
 -- none is turned away by 1 to 5
 accepted-cases : map judged cases ≡ map (λ (c : Case). accepted) cases
-unfolding lcp lcs same altered shorter within ahead behind kindIn kindOf changedForm normal residue firstOutside formGrounds
+unfolding lcp lcs same altered shorter within ahead behind kindIn kindOf changedForm normal residue letter firstOutside formGrounds
 accepted-cases = refl
 
 -- nor by 6 where there is room

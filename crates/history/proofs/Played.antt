@@ -6,7 +6,7 @@ use Rattle.stretch.specs.Over.{over}
 use Rattle.stretch.specs.Same.{same}
 use Rattle.refusal.specs.declared.Outcome.the-variants.{Accepted}
 use Rattle.stretch.specs.Class.{every, firstOutside}
-use Rattle.letters.specs.Letters.{residue, base64url, digestTextGrounds}
+use Rattle.letters.specs.Letters.{letter, residue, base64url, digestTextGrounds}
 use Rattle.normal.specs.Form.{altered, shorter, within, ahead, behind, kindIn, kindOf, changedForm, normal}
 use Rattle.forming.specs.Calls.{formGrounds}
 use Rattle.image.specs.Numbers.{little, bytes, number, numbers, put}
@@ -27,7 +27,7 @@ use Rattle.history.specs.Example.{blank, one, oneUndone, two, oneAgain, 
 
 pub played : Played
 unfolding below lcp lcs over same
-    residue base64url every firstOutside digestTextGrounds
+    residue letter base64url every firstOutside digestTextGrounds
     altered shorter within ahead behind kindIn kindOf changedForm normal formGrounds
     little bytes number numbers put
     headerOf recordAt recordOf replacementOf

@@ -17,7 +17,7 @@ use Rattle.normal.proofs.Laws.{normal-short}
 use Rattle.forming.specs.Calls.{givenGrounds}
 use Rattle.forming.proofs.Answers.{given-allele}
 use Rattle.text.specs.Layout.{locationText, beforeLocation, beforeSequence}
-use Rattle.words.specs.Vocabulary.{Digest, Letters}
+use Rattle.words.specs.Vocabulary.{Digest, Residues}
 use Rattle.reading.specs.declared.AlleleRead.{AlleleRead}
 use Rattle.reading.specs.declared.AlleleRead.the-variants.{Accepted}
 use Rattle.reading.specs.Accepted.{AlleleText, ReadsAllele, HandsBack}
@@ -50,11 +50,11 @@ module _ (r : List ℕ) (start end : ℕ) (x digest out : List ℕ) (place k : �
       (verdict-later (digestTextGrounds digest) (foreignNormal (form .replacement) ∷ [])
       (verdict-later (givenGrounds r start end x) (digestTextGrounds digest ++ (foreignNormal (form .replacement) ∷ [])) (said .grounds))) 0)
 
-  letters : Letters sequenceLimit (form .replacement)
+  letters : Residues sequenceLimit (form .replacement)
   letters =
       record {
         few = omega (arith, normal-short r start end x (allele .ordered) (allele .inside), allele .reference, allele .replacement);
-        letters = foreign-none (form .replacement) (omega (arith, clean, foreign-le (form .replacement)));
+        residues = foreign-none (form .replacement) (omega (arith, clean, foreign-le (form .replacement)));
       }
 
   located : Digest location

@@ -1,4 +1,4 @@
--- The letters of the pool: where the records' parts of it lie one behind the other, all records' letters are tested in one pass.
+-- The residues of the pool: the records' parts of it lie one behind the other, so all are tested in one pass.
 use Prim.Native.Nat.{ℕ, zero, suc, _+_, _<_}
 use native.Mathlib.Nat.{add-sub-cancel-left}
 use native.Mathlib.Numerals.{add-one}
@@ -21,7 +21,7 @@ use Rattle.image.specs.Fields.{issued, poolUsed, recordAt, poolAt, refer
 use Rattle.image.specs.Formed.{all, lengths, recordGood}
 use Rattle.image.proofs.Tests.{all-append, all-one, both, last}
 
--- the tests of the record behind the first k, but for its letters
+-- the tests of the record behind the first k, but for its residues
 abbrev placedTests : List ℕ → ℕ → List Bool
 placedTests b k =
     leb (startOf b (suc k)) (endOf b (suc k))
@@ -57,7 +57,7 @@ cond-swap true false = refl
 cond-swap false true = refl
 cond-swap false false = refl
 
--- the pool's letters behind the first n records
+-- the pool's residues behind the first n records
 good-pool : (b : List ℕ) (n : ℕ) → below (placed b) n ≡ true → below (recordGood b) n ≡ every residue (part b (poolAt b) (poolAt b + lengths b n))
 unfolding below lengths replacementOf every
 good-pool b zero h = rw (add-sub-cancel-left (poolAt b) 0)

@@ -26,7 +26,7 @@ headTests b =
 abbrev recordTests : List ℕ → List Bool
 recordTests b = below (recordGood b) (issued b) ∷ eqb (lengths b (issued b)) (poolUsed b) ∷ []
 
--- the tests in the order of the code: the bytes of a header, the header, the records and their letters, the journal
+-- the tests in the order of the code: the bytes of a header, the header, the records and their residues, the journal
 pub formed-steps : (b : List ℕ)
     → wellFormed b
     ≡ cond (leb headerSize (length b))

@@ -24,7 +24,7 @@ pub const ENTRY_SIZE: usize = 4;
 // The most records, and the most journal entries.
 pub const COUNT_LIMIT: usize = 10_000;
 
-// The most letters of the pool.
+// The most residues of the pool.
 pub const POOL_LIMIT: usize = 10_000_000;
 
 // The only edition there is.

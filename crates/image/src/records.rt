@@ -44,7 +44,7 @@ pub fn status_of(image: &[u8], number: usize) -> usize
     read_number(image, record_at(number) + STATUS)
 }
 
-// The tests of the record at a place but for its letters, where `before` letters stand before them.
+// The tests of the record at a place but for its residues, where `before` residues stand before them.
 fn record_placed(image: &[u8], at: usize, reference: usize, before: usize) -> bool
     requires { ⌜ at + recordSize ≤ length (now image) ⌝ }
     ensures { λ r. ⌜ r ≡ all (
@@ -61,7 +61,7 @@ fn record_placed(image: &[u8], at: usize, reference: usize, before: usize) -> bo
         & (read_number(image, at + OFFSET) == before)
 }
 
-// Whether that many letters are all that the pool uses, and each is a residue.
+// Whether that many bytes are all that the pool uses, and each is a residue.
 fn pool_formed(image: &[u8], letters: usize) -> bool
     requires { ⌜ Header (now image) ⌝ }
     ensures { λ r. ⌜ r ≡ cond (eqb letters (poolUsed (now (image .entry))))
@@ -76,7 +76,7 @@ fn pool_formed(image: &[u8], letters: usize) -> bool
     first_foreign(&image[pool..pool + letters]) == letters
 }
 
-// Whether every record is good, and their letters fill the part of the pool that is used. The letters
+// Whether every record is good, and their residues fill the part of the pool that is used. The residues
 // are tested in one pass, since the records' parts of the pool lie one behind the other.
 pub fn records_formed(image: &[u8]) -> bool
     requires { ⌜ Header (now image) ⌝ }

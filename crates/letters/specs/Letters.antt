@@ -10,9 +10,13 @@ use Rattle.refusal.specs.Verdict.{Ground, ground, verdict, tell}
 use Rattle.refusal.specs.declared.Outcome.{Outcome}
 use Rattle.refusal.specs.declared.Outcome.the-variants.{Accepted, Refused}
 
--- a residue is a byte from A to Z
+-- a letter is a byte from A to Z
+unfoldable pub letter : ℕ → Bool
+letter b = cond (leb 0x41 b) (leb b 0x5A) false
+
+-- a residue is a letter
 unfoldable pub residue : ℕ → Bool
-residue b = cond (leb 0x41 b) (leb b 0x5A) false
+residue b = letter b
 
 -- the characters of the values 0 to 63
 abbrev pub alphabet : List ℕ

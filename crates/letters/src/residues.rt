@@ -3,15 +3,21 @@ ghost use mathlib.Core.Path.{_≡_};
 ghost use Prim.Native.Nat.{_+_, _≤_};
 ghost use lib.ListN.{length, drop};
 ghost use Rattle.stretch.specs.Class.{every};
-ghost use Rattle.letters.specs.Letters.{residue, foreign};
+ghost use Rattle.letters.specs.Letters.{letter, residue, foreign};
 
 // How many bytes are tested before one of them is looked for.
 const BLOCK: usize = 1024;
 
+fn is_letter(b: u8) -> bool
+    ensures { λ r. ⌜ r ≡ letter b ⌝ }
+{
+    b'A' <= b && b <= b'Z'
+}
+
 fn is_residue(b: u8) -> bool
     ensures { λ r. ⌜ r ≡ residue b ⌝ }
 {
-    b'A' <= b && b <= b'Z'
+    is_letter(b)
 }
 
 // Whether every byte is a residue. It looks at all of them, without a way out of the loop, so that

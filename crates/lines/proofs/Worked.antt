@@ -4,7 +4,7 @@ use Rattle.stretch.specs.Ascii.{ascii}
 use Rattle.stretch.specs.Common.{lcp, lcs}
 use Rattle.stretch.specs.Same.{same}
 use Rattle.stretch.specs.Class.{firstOutside}
-use Rattle.letters.specs.Letters.{residue}
+use Rattle.letters.specs.Letters.{letter, residue}
 use Rattle.normal.specs.Form.{altered, shorter, within, ahead, behind, kindIn, kindOf, changedForm, normal}
 use Rattle.forming.specs.Calls.{formGrounds}
 use Rattle.decimals.specs.Decimal.{decimalIn, enough, decimal}
@@ -15,5 +15,5 @@ use Rattle.answers.specs.Answers.{answerLine}
 use Rattle.lines.specs.Output.{output}
 
 pub worked : output (ascii "TCAGCAGCAGT\n4 4 CAG\n2 2 .\n9 4 A\n") ≡ ascii "1 10 indel CAGCAGCAGCAG\n2 2 unchanged .\nrefused 2\n"
-unfolding output answerLine parted said replacementOf same numberOf value valueFrom decimal enough decimalIn formGrounds residue firstOutside normal altered changedForm kindOf kindIn ahead behind within shorter lcp lcs
+unfolding output answerLine parted said replacementOf same numberOf value valueFrom decimal enough decimalIn formGrounds residue letter firstOutside normal altered changedForm kindOf kindIn ahead behind within shorter lcp lcs
 worked = refl

@@ -9,13 +9,13 @@ use lib.ListN.{length, replicate}
 use Rattle.stretch.specs.Part.{part}
 use Rattle.stretch.proofs.Interval.{length-part}
 use Rattle.refusal.specs.Limits.{sequenceLimit}
-use Rattle.letters.specs.Letters.{residue}
+use Rattle.letters.specs.Letters.{letter, residue}
 use Rattle.text.specs.Layout.{beforeLocation, beforeSequence, behindSequence, alleleText}
 use Rattle.words.specs.declared.Walk.{Walk}
-use Rattle.words.specs.Vocabulary.{Word, Digest, Letters}
+use Rattle.words.specs.Vocabulary.{Word, Digest, Residues}
 use Rattle.words.specs.Walk.{Onward}
 use Rattle.words.proofs.Following.{Then, Done, Apart, Open, one-way, word-then, then-is, open-done, open-then}
-use Rattle.words.proofs.Vocabulary.{some-digest, no-letters, apart-letters, apart-digest}
+use Rattle.words.proofs.Vocabulary.{some-digest, no-residues, apart-residues, apart-digest}
 use Rattle.words.proofs.Reach.{Reach, reach-begun, reach-onward, reach-word, reach-all, reach-end, on-before, onward-length}
 use Rattle.reading.specs.declared.AlleleRead.the-variants.{Accepted, Refused}
 use Rattle.reading.specs.Accepted.{AlleleText, ReadsAllele, accepts-allele, refuses-allele}
@@ -25,7 +25,7 @@ abbrev pub FromClose : List ℕ → Type 0
 FromClose = Then (Word behindSequence) (λ _. Done)
 
 abbrev pub FromSequence : List ℕ → Type 0
-FromSequence = Then (Letters sequenceLimit) (λ _. FromClose)
+FromSequence = Then (Residues sequenceLimit) (λ _. FromClose)
 
 abbrev pub FromState : List ℕ → Type 0
 FromState = Then (Word beforeSequence) (λ _. FromSequence)
@@ -40,7 +40,7 @@ open-close : Open FromClose
 open-close = open-then (Word behindSequence) (λ _. Done) behindSequence refl open-done
 
 open-sequence : Open FromSequence
-open-sequence = open-then (Letters sequenceLimit) (λ _. FromClose) [] (no-letters sequenceLimit) open-close
+open-sequence = open-then (Residues sequenceLimit) (λ _. FromClose) [] (no-residues sequenceLimit) open-close
 
 open-state : Open FromState
 open-state = open-then (Word beforeSequence) (λ _. FromSequence) beforeSequence refl open-sequence
@@ -48,21 +48,21 @@ open-state = open-then (Word beforeSequence) (λ _. FromSequence) beforeSequence
 open-location : Open FromLocation
 open-location = open-then Digest (λ _. FromState) (replicate 32 0x41) some-digest open-state
 
-apart-sequence : Apart (Letters sequenceLimit) (λ _. FromClose)
-unfolding residue
-apart-sequence = apart-letters sequenceLimit behindSequence (omega arith) (λ _ _. Done) refl
+apart-sequence : Apart (Residues sequenceLimit) (λ _. FromClose)
+unfolding residue letter
+apart-sequence = apart-residues sequenceLimit behindSequence (omega arith) (λ _ _. Done) refl
 
 -- what stands behind the location's digest
 abbrev behindLocation : List ℕ → List ℕ
 behindLocation sequence = beforeSequence ++ (sequence ++ behindSequence)
 
-from-state : (sequence : List ℕ) → Letters sequenceLimit sequence → FromState (behindLocation sequence)
+from-state : (sequence : List ℕ) → Residues sequenceLimit sequence → FromState (behindLocation sequence)
 from-state sequence l = word-then beforeSequence _ refl (word-then sequence _ l (word-then behindSequence [] refl refl))
 
 pub allele-words : (t : List ℕ) → AlleleText t → FromHead t
 unfolding alleleText
 allele-words t a =
-    rw (a .laid) (word-then beforeLocation _ refl (word-then (a .location) _ (a .digests) (from-state (a .sequence) (a .letters))))
+    rw (a .laid) (word-then beforeLocation _ refl (word-then (a .location) _ (a .digests) (from-state (a .sequence) (a .residues))))
 
 pub words-allele : (t : List ℕ) → FromHead t → AlleleText t
 unfolding alleleText
@@ -75,14 +75,14 @@ words-allele t f₁ =
       location = f₂ .word;
       sequence = f₄ .word;
       digests = f₂ .is-word;
-      letters = f₄ .is-word;
+      residues = f₄ .is-word;
       laid = then-is f₁ (f₁ .is-word) (then-is f₂ refl (then-is f₃ (f₃ .is-word) (then-is f₄ refl (then-is f₅ (f₅ .is-word) (f₅ .follows)))));
     }
 
 -- a walk over all its words
 module _ {text : List ℕ} {location middle sequence behind close : Walk}
     (o₁ : Onward (Word beforeLocation) text (record { at = 0; on = true }) location) (o₂ : Onward Digest text location middle)
-    (o₃ : Onward (Word beforeSequence) text middle sequence) (o₄ : Onward (Letters sequenceLimit) text sequence behind)
+    (o₃ : Onward (Word beforeSequence) text middle sequence) (o₄ : Onward (Residues sequenceLimit) text sequence behind)
     (o₅ : Onward (Word behindSequence) text behind close) where
   at-location : Reach AlleleText text (λ v. beforeLocation ++ v) FromLocation location
   at-location = reach-word (reach-begun text allele-words words-allele) o₁ open-location
@@ -111,7 +111,7 @@ module _ {text : List ℕ} {location middle sequence behind close : Walk}
         location = part text (location .at) (middle .at);
         sequence = part text (sequence .at) (behind .at);
         digests = d;
-        letters = o₄ .goes e₃ e₄ .word;
+        residues = o₄ .goes e₃ e₄ .word;
         laid = reach-all at-close e h;
       } in
       let first : location .at ≡ length beforeLocation = onward-length o₁ (o₁ .goes refl e₁ .word) in
@@ -136,13 +136,13 @@ module _ (text : List ℕ) (a b : AlleleText text) where
       one-way Digest (λ _. FromState) (apart-digest (λ _. FromState))
       (a .location) (behindLocation (a .sequence)) (b .location) (behindLocation (b .sequence))
       (append-cancel-left beforeLocation _ _ (sym (a .laid) ∙ b .laid))
-      (a .digests) (b .digests) (from-state (a .sequence) (a .letters)) (from-state (b .sequence) (b .letters))
+      (a .digests) (b .digests) (from-state (a .sequence) (a .residues)) (from-state (b .sequence) (b .residues))
 
   pub allele-location : a .location ≡ b .location
   allele-location = locations .0
 
   pub allele-sequence : a .sequence ≡ b .sequence
   allele-sequence =
-      one-way (Letters sequenceLimit) (λ _. FromClose) apart-sequence (a .sequence) behindSequence (b .sequence) behindSequence
+      one-way (Residues sequenceLimit) (λ _. FromClose) apart-sequence (a .sequence) behindSequence (b .sequence) behindSequence
       (append-cancel-left beforeSequence _ _ (locations .1))
-      (a .letters) (b .letters) (word-then behindSequence [] refl refl) (word-then behindSequence [] refl refl) .0
+      (a .residues) (b .residues) (word-then behindSequence [] refl refl) (word-then behindSequence [] refl refl) .0

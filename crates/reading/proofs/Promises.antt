@@ -9,7 +9,7 @@ use Rattle.refusal.specs.Limits.{referenceLimit, sequenceLimit}
 use Rattle.refusal.specs.declared.Refusal.{Refusal}
 use Rattle.decimals.specs.Decimal.{decimal}
 use Rattle.text.specs.Layout.{beforeEnd, beforeStart, beforeDigest, behindDigest, locationText, beforeLocation, beforeSequence, behindSequence, alleleText}
-use Rattle.words.specs.Vocabulary.{Digest, Letters}
+use Rattle.words.specs.Vocabulary.{Digest, Residues}
 use Rattle.words.proofs.Following.{longest-once}
 use Rattle.reading.specs.declared.AlleleParts.{AlleleParts}
 use Rattle.reading.specs.declared.AlleleRead.{AlleleRead}
@@ -83,9 +83,9 @@ module _ (start end : ℕ) (digest : List ℕ) (ordered : start ≤ end) (inside
   unfolding written
   digest-of-back s h = digest-of-once (locationText start end digest) s digest h (hands written)
 
-module _ (location sequence : List ℕ) (d : Digest location) (l : Letters sequenceLimit sequence) where
+module _ (location sequence : List ℕ) (d : Digest location) (l : Residues sequenceLimit sequence) where
   written-allele : AlleleText (alleleText location sequence)
-  written-allele = record { location = location; sequence = sequence; digests = d; letters = l; laid = refl }
+  written-allele = record { location = location; sequence = sequence; digests = d; residues = l; laid = refl }
 
   pub reads-allele-back : (answer : AlleleRead) → ReadsAllele (alleleText location sequence) answer
       → answer ≡ AlleleAccepted (record {

@@ -7,7 +7,7 @@ use Rattle.refusal.specs.Limits.{referenceLimit, sequenceLimit}
 use Rattle.decimals.specs.Decimal.{decimal}
 use Rattle.text.specs.Layout.{beforeEnd, beforeStart, beforeDigest, locationText, beforeLocation, beforeSequence, alleleText}
 use Rattle.words.specs.Prefix.{Refuses}
-use Rattle.words.specs.Vocabulary.{Digest, Letters}
+use Rattle.words.specs.Vocabulary.{Digest, Residues}
 use Rattle.reading.specs.declared.AlleleRead.{AlleleRead}
 use Rattle.reading.specs.declared.AlleleRead.the-variants.{Accepted as AlleleAccepted, Refused as AlleleRefused}
 use Rattle.reading.specs.declared.LocationRead.{LocationRead}
@@ -23,12 +23,12 @@ pub record LocationText (text : List ℕ) : Type 0 where
   pub digests : Digest digest
   pub laid : text ≡ locationText start end digest
 
--- L, and X of at most 1,001,000,000 letters
+-- L, and X of at most 1,001,000,000 residues
 pub record AlleleText (text : List ℕ) : Type 0 where
   pub location : List ℕ
   pub sequence : List ℕ
   pub digests : Digest location
-  pub letters : Letters sequenceLimit sequence
+  pub residues : Residues sequenceLimit sequence
   pub laid : text ≡ alleleText location sequence
 
 -- start, end, and the offset of D

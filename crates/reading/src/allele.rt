@@ -10,7 +10,7 @@ use text::BEHIND_SEQUENCE;
 use words::DIGEST_LENGTH;
 use words::Walk;
 use words::past_digest;
-use words::past_letters;
+use words::past_residues;
 use words::past_word;
 ghost use Rattle.reading.specs.Accepted.{AlleleText, ReadsAllele, HandsBack};
 
@@ -22,7 +22,7 @@ pub fn read_allele(text: &[u8]) -> AlleleRead
     let location = past_word(text, begun, &BEFORE_LOCATION);
     let middle = past_digest(text, location);
     let sequence = past_word(text, middle, &BEFORE_SEQUENCE);
-    let behind = past_letters(text, sequence, SEQUENCE_LIMIT as usize);
+    let behind = past_residues(text, sequence, SEQUENCE_LIMIT as usize);
     let close = past_word(text, behind, &BEHIND_SEQUENCE);
     if close.on && close.at == text.len() {
         let length = behind.at - sequence.at;

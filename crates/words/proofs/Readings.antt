@@ -1,4 +1,4 @@
--- How far a text goes with a word, with a digest, with letters.
+-- How far a text goes with a word, with a digest, with residues.
 use Prim.Native.Nat.{ℕ, zero, suc, _+_, _-_, _<_, _≤_, min}
 use native.Mathlib.Nat.{add-sub-cancel-left}
 use native.Mathlib.Omega.{arith}
@@ -17,7 +17,7 @@ use Rattle.letters.specs.Letters.{residue, base64url, foreign}
 use Rattle.stretch.proofs.Class.{every-append, every-front}
 use Rattle.stretch.proofs.Outside.{firstOutside-le, firstOutside-take, firstOutside-max}
 use Rattle.words.specs.Prefix.{Begins}
-use Rattle.words.specs.Vocabulary.{Word, Digest, Letters}
+use Rattle.words.specs.Vocabulary.{Word, Digest, Residues}
 use Rattle.words.specs.Walk.{Goes, Stops}
 
 -- the first so many bytes from a place on, as lending them shows it
@@ -118,16 +118,16 @@ module _ (s : List ℕ) (n : ℕ) (first : n ≡ firstOutside base64url (take 32
         never = λ j h d. f (omega (arith, d .long, length-take-le j s (omega (arith, within)), first-few base64url 32 s n first));
       }
 
-pub goes-letters : (most : ℕ) (s : List ℕ) (n : ℕ) → n ≡ foreign (take most s) → Goes (Letters most) s n
-goes-letters most s n first =
+pub goes-residues : (most : ℕ) (s : List ℕ) (n : ℕ) → n ≡ foreign (take most s) → Goes (Residues most) s n
+goes-residues most s n first =
     let inside : n ≤ length s = first-within residue most s n first in
     record {
       within = inside;
       word = record {
         few = rw (length-take-le n s inside) (first-few residue most s n first);
-        letters = first-every residue most s n first;
+        residues = first-every residue most s n first;
       };
       furthest = λ j h g b.
           (let few : length (take j s) + length (b .rest) ≤ most = rw length-append at (b .whole .few) in
-          omega (arith, first-max residue most s n first j (b .rest) g (omega (arith, length-take-le j s g)) (b .whole .letters)));
+          omega (arith, first-max residue most s n first j (b .rest) g (omega (arith, length-take-le j s g)) (b .whole .residues)));
     }

@@ -17,10 +17,10 @@ pub record Digest (s : List ℕ) : Type 0 where
   pub long : length s ≡ 32
   pub characters : every base64url s ≡ true
 
--- at most so many letters
-pub record Letters (most : ℕ) (s : List ℕ) : Type 0 where
+-- at most so many residues
+pub record Residues (most : ℕ) (s : List ℕ) : Type 0 where
   pub few : length s ≤ most
-  pub letters : every residue s ≡ true
+  pub residues : every residue s ≡ true
 
 -- the decimals of the numbers up to a limit
 pub record DecimalTo (most : ℕ) (s : List ℕ) : Type 0 where

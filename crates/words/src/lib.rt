@@ -8,7 +8,7 @@ mod words;
 pub use words::DIGEST_LENGTH;
 pub use words::past_decimal;
 pub use words::past_digest;
-pub use words::past_letters;
+pub use words::past_residues;
 pub use words::past_word;
 
 // How far a text is read, and whether it may go on from there.

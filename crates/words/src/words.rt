@@ -9,7 +9,7 @@ use stretch::smaller;
 ghost use Prim.Native.Nat.{_≤_};
 ghost use lib.ListN.{length};
 ghost use Rattle.refusal.specs.Limits.{referenceLimit};
-ghost use Rattle.words.specs.Vocabulary.{Word, Digest, Letters};
+ghost use Rattle.words.specs.Vocabulary.{Word, Digest, Residues};
 ghost use Rattle.words.specs.Walk.{Onward, Numbers, Counts};
 
 pub const DIGEST_LENGTH: usize = 32;
@@ -53,10 +53,10 @@ pub fn past_digest(text: &[u8], a: Walk) -> Walk
     }
 }
 
-// Past the letters that stand there, at most so many.
-pub fn past_letters(text: &[u8], a: Walk, most: usize) -> Walk
+// Past the residues that stand there, at most so many.
+pub fn past_residues(text: &[u8], a: Walk, most: usize) -> Walk
     requires { ⌜ a .at ≤ length (now text) ⌝ }
-    ensures { λ r. ⌜ Onward (Letters most) (now (text .entry)) a r ⌝ }
+    ensures { λ r. ⌜ Onward (Residues most) (now (text .entry)) a r ⌝ }
 {
     if !a.on {
         return a;

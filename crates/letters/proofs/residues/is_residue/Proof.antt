@@ -1,16 +1,15 @@
--- Each arm is one of the class's two tests.
-use borrow.Author.Tests.{le-leb, lt-leb}
+-- A residue is a letter.
+use borrow.Author.Needs.{needs}
 use Rattle.letters.specs.Letters.{residue}
 use Rattle.letters.proofs.residues.is_residue.Statement.{statement}
 use Rattle.letters.proofs.residues.is_residue.Tie as tie
 
+is-letter-requires : tie.Need-is-letter-requires
+is-letter-requires c κs = search needs
+
 returns : tie.Need-returns
 unfolding residue
-returns c = rw (le-leb _ _ (c .if1 .taken))
-
-returns-2 : tie.Need-returns-2
-unfolding residue
-returns-2 c = rw (lt-leb _ _ (c .if1 .left))
+returns c = c .is-letter .ensures
 
 pub is-residue-spec : {M : Type 1} → statement M
-is-residue-spec = tie.close (tie.spec returns returns-2)
+is-residue-spec = tie.close (tie.spec is-letter-requires returns)

@@ -21,8 +21,8 @@ slice-aggregate-past-word-2 c = search needs
 past-word-requires-2 : tie.Need-past-word-requires-2
 past-word-requires-2 c κs = search needs
 
-past-letters-requires : tie.Need-past-letters-requires
-past-letters-requires c κs = search needs
+past-residues-requires : tie.Need-past-residues-requires
+past-residues-requires c κs = search needs
 
 slice-aggregate-past-word-3 : tie.Need-slice-aggregate-past-word-3
 slice-aggregate-past-word-3 c = search needs
@@ -40,7 +40,7 @@ returns c =
     let w₃ = w₄ .before in
     let w₂ = w₃ .before .before in
     let w₁ = w₂ .before in
-    allele-accepts (w₁ .past-word .ensures) (w₂ .past-digest .ensures) (w₃ .past-word2 .ensures) (w₄ .past-letters .ensures) (w₅ .past-word3 .ensures)
+    allele-accepts (w₁ .past-word .ensures) (w₂ .past-digest .ensures) (w₃ .past-word2 .ensures) (w₄ .past-residues .ensures) (w₅ .past-word3 .ensures)
     (c .before .before .before .before .if1 .taken) (eqb-true _ _ (c .before .before .if2 .taken))
 
 refuse-requires : tie.Need-refuse-requires
@@ -54,7 +54,7 @@ returns-2 c =
     let w₂ = w₃ .before .before in
     let w₁ = w₂ .before in
     rw (c .refuse .ensures)
-    (allele-refuses (w₁ .past-word .ensures) (w₂ .past-digest .ensures) (w₃ .past-word2 .ensures) (w₄ .past-letters .ensures) (w₅ .past-word3 .ensures)
+    (allele-refuses (w₁ .past-word .ensures) (w₂ .past-digest .ensures) (w₃ .past-word2 .ensures) (w₄ .past-residues .ensures) (w₅ .past-word3 .ensures)
     (⊎-elim (λ w. inr (eqb-false _ _ (w .2 .left))) (λ w. inl (w .left)) (c .before .if1 .came)))
 
 pub read-allele-spec : {M : Type 1} → statement M
@@ -66,7 +66,7 @@ read-allele-spec =
     past-digest-requires
     slice-aggregate-past-word-2
     past-word-requires-2
-    past-letters-requires
+    past-residues-requires
     slice-aggregate-past-word-3
     past-word-requires-3
     sub-length

@@ -1,12 +1,12 @@
--- Letters go up to the first foreign byte, among so many.
+-- Residues go up to the first foreign byte, among so many.
 use native.Mathlib.Omega.{arith}
 use borrow.Author.Needs.{needs}
 use borrow.Author.Tests.{not-true, not-false}
-use Rattle.words.specs.Vocabulary.{Letters}
+use Rattle.words.specs.Vocabulary.{Residues}
 use Rattle.words.proofs.Onwards.{onward-stopped, onward-goes}
-use Rattle.words.proofs.Readings.{lent-most, goes-letters}
-use Rattle.words.proofs.words.past_letters.Statement.{statement}
-use Rattle.words.proofs.words.past_letters.Tie as tie
+use Rattle.words.proofs.Readings.{lent-most, goes-residues}
+use Rattle.words.proofs.words.past_residues.Statement.{statement}
+use Rattle.words.proofs.words.past_residues.Tie as tie
 
 returns : tie.Need-returns
 returns c = let s = c .before .before .before in
@@ -37,15 +37,15 @@ returns-2 : tie.Need-returns-2
 returns-2 c =
     let s = c .before .before .before .before .before .before in
     let first = rw (c .before .before .smaller .ensures, lent-most) at (c .first-foreign .ensures) in
-    onward-goes (Letters (s .args .most)) _ (s .args .a) (s .pre) (not-false _ (c .before .before .before .if1 .left)) (c .first-foreign .result)
-    (goes-letters (s .args .most) _ _ first)
+    onward-goes (Residues (s .args .most)) _ (s .args .a) (s .pre) (not-false _ (c .before .before .before .if1 .left)) (c .first-foreign .result)
+    (goes-residues (s .args .most) _ _ first)
 
 -- where the walk is then lies within the text
 add-t10 : tie.Need-add-t10
 add-t10 c = omega (arith, returns-2 c .within)
 
-pub past-letters-spec : {M : Type 1} → statement M
-past-letters-spec =
+pub past-residues-spec : {M : Type 1} → statement M
+past-residues-spec =
     tie.close
     (tie.spec
     returns
