@@ -20,7 +20,7 @@ use Rattle.decimals.specs.declared.Number.{Number}
 use Rattle.decimals.specs.declared.Number.the-variants.{Is, Absent}
 use Rattle.decimals.specs.Number.{numberOf}
 use Rattle.decimals.proofs.Digits.{decimal-within}
-use Rattle.saying.specs.Cut.{parted, onFirst}
+use Rattle.fields.specs.Cut.{parted, onFirst}
 use Rattle.saying.specs.Said.{Said, unread, allele, space, replacementOf, numbered, saidBy, said}
 use Rattle.answers.specs.Answers.{shown, formReply, verdictText, saidText, answerLine, beyond}
 use Rattle.answers.proofs.Laying.{word-short}

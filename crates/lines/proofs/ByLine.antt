@@ -14,9 +14,9 @@ use Rattle.stretch.proofs.Cases.{by-cases}
 use Rattle.stretch.proofs.Tail.{lent-tail}
 use Rattle.stretch.proofs.Wrote.{wrote-front}
 use Rattle.stretch.proofs.Outside.{firstOutside-le}
-use Rattle.saying.specs.Cut.{parted, other, firstOf, nextOf}
+use Rattle.fields.specs.Cut.{parted, other, firstOf, nextOf}
 use Rattle.saying.specs.Said.{lineFeed}
-use Rattle.saying.proofs.Cutting.{next-le, parted-cut, parted-one, parted-next, parted-last}
+use Rattle.fields.proofs.Cutting.{next-le, parted-cut, parted-one, parted-next, parted-last}
 use Rattle.answers.specs.Answers.{answerLine, Room}
 use Rattle.answers.proofs.Laying.{part-short}
 use Rattle.lines.specs.declared.Step.{Step}

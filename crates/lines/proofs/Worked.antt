@@ -9,7 +9,7 @@ use Rattle.normal.specs.Form.{altered, shorter, within, ahead, behind, kindIn, 
 use Rattle.forming.specs.Calls.{formGrounds}
 use Rattle.decimals.specs.Decimal.{decimalIn, enough, decimal}
 use Rattle.decimals.specs.Number.{valueFrom, value, numberOf}
-use Rattle.saying.specs.Cut.{parted}
+use Rattle.fields.specs.Cut.{parted}
 use Rattle.saying.specs.Said.{replacementOf, said}
 use Rattle.answers.specs.Answers.{answerLine}
 use Rattle.lines.specs.Output.{output}

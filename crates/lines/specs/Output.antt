@@ -2,7 +2,7 @@
 use Prim.Native.Nat.{ℕ}
 use mathlib.Core.List.{List, [], _∷_, _++_}
 use lib.ListN.{take}
-use Rattle.saying.specs.Cut.{parted}
+use Rattle.fields.specs.Cut.{parted}
 use Rattle.saying.specs.Said.{lineFeed}
 use Rattle.answers.specs.Answers.{answerLine}
 

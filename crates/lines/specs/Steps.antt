@@ -5,7 +5,7 @@ use mathlib.Core.List.{List, [], _∷_, _++_}
 use lib.ListN.{length, take, drop}
 use Rattle.stretch.specs.Over.{Wrote}
 use Rattle.stretch.specs.Part.{part}
-use Rattle.saying.specs.Cut.{parted, nextOf}
+use Rattle.fields.specs.Cut.{parted, nextOf}
 use Rattle.saying.specs.Said.{lineFeed}
 use Rattle.answers.specs.Answers.{answerLine, beyond}
 use Rattle.lines.specs.declared.Step.{Step}

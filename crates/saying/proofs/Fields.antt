@@ -14,10 +14,10 @@ use Rattle.stretch.specs.Same.{same}
 use Rattle.stretch.proofs.Same.{same-lengths}
 use Rattle.stretch.proofs.Outside.{firstOutside-le}
 use Rattle.decimals.specs.Number.{numberOf}
+use Rattle.fields.specs.Cut.{parted, other, firstOf, nextOf}
+use Rattle.fields.proofs.Cutting.{next-le, parted-cut, parted-one, parted-next, parted-last}
 use Rattle.saying.specs.declared.Line.the-variants.{Unread}
-use Rattle.saying.specs.Cut.{parted, other, firstOf, nextOf}
 use Rattle.saying.specs.Said.{unread, space, replacementOf, numbered, saidBy, said, Tells}
-use Rattle.saying.proofs.Cutting.{next-le, parted-cut, parted-one, parted-next, parted-last}
 use Rattle.saying.specs.Parts.{Fields}
 
 module _ (line : List ℕ) where

@@ -5,9 +5,9 @@ use mathlib.Core.Path.{_≡_, refl, _∙_, sym, ap}
 use mathlib.Core.List.{List}
 use lib.ListN.{length, drop, length-drop}
 use Rattle.refusal.proofs.Unique.{one-answer}
+use Rattle.fields.specs.Cut.{nextOf}
 use Rattle.saying.specs.declared.Line.{Line}
 use Rattle.saying.specs.declared.Line.the-variants.{Allele, Unread}
-use Rattle.saying.specs.Cut.{nextOf}
 use Rattle.saying.specs.Said.{lineFeed, meaning, Tells}
 
 pub ends-once : (input : List ℕ) (from a b : ℕ) → a ≡ nextOf lineFeed input from → b ≡ nextOf lineFeed input from → a ≡ b

@@ -4,7 +4,7 @@ use mathlib.Core.Path.{_≡_}
 use mathlib.Core.List.{List, _∷_}
 use lib.ListN.{length, drop}
 use Rattle.stretch.specs.Part.{part}
-use Rattle.saying.specs.Cut.{parted}
+use Rattle.fields.specs.Cut.{parted}
 use Rattle.saying.specs.Said.{space}
 
 -- a line whose first field ends at one place and whose second field ends at another

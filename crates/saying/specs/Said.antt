@@ -9,9 +9,9 @@ use Rattle.stretch.specs.Same.{same}
 use Rattle.decimals.specs.declared.Number.{Number}
 use Rattle.decimals.specs.declared.Number.the-variants.{Is, Absent}
 use Rattle.decimals.specs.Number.{numberOf}
+use Rattle.fields.specs.Cut.{parted}
 use Rattle.saying.specs.declared.Line.{Line}
 use Rattle.saying.specs.declared.Line.the-variants.{Allele, Unread}
-use Rattle.saying.specs.Cut.{parted}
 
 -- what parts the fields of a line, and what ends a line
 abbrev pub space : ℕ

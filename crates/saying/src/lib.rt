@@ -1,7 +1,7 @@
 // How the line program's input is read (document 01, "The line program"): where a line ends, and what it
 // says. Crate `answers` has the line that answers it.
 //
-// specs/Cut.antt has a text's pieces, and specs/Said.antt what a line says.
+// specs/Said.antt has what a line says, by the pieces that crate `fields` cuts it into.
 mod read;
 mod scan;
 

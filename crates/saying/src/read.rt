@@ -1,8 +1,8 @@
 // What a line says.
 use super::Line;
-use super::scan::next;
 use decimals::Number;
 use decimals::read_decimal;
+use fields::next;
 ghost use mathlib.Core.Path.{_≡_};
 ghost use Prim.Native.Nat.{_<_, _≤_};
 ghost use lib.ListN.{length, drop};

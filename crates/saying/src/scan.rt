@@ -1,22 +1,8 @@
-// Where a byte stands.
+// Where a line ends.
+use fields::next;
 ghost use mathlib.Core.Path.{_≡_};
-ghost use Rattle.saying.specs.Cut.{nextOf};
+ghost use Rattle.fields.specs.Cut.{nextOf};
 ghost use Rattle.saying.specs.Said.{lineFeed};
-
-// The first place at or after `from` where `s` has `byte`, or its length where there is none; `from`
-// itself where that is past the end.
-pub fn next(s: &[u8], from: usize, byte: u8) -> usize
-    ensures { λ r. ⌜ r ≡ nextOf byte (now (s .entry)) from ⌝ }
-{
-    let mut i = from;
-    while i < s.len() {
-        if s[i] == byte {
-            return i;
-        }
-        i += 1;
-    }
-    i
-}
 
 // Where the line that begins at `from` ends: at its line feed, or with the input.
 pub fn line_end(input: &[u8], from: usize) -> usize

@@ -4,7 +4,7 @@ use native.Mathlib.Omega.{arith}
 use mathlib.Core.Path.{_∙_, sym}
 use lib.ListN.{length}
 use borrow.Author.Needs.{needs}
-use Rattle.saying.proofs.Cutting.{next-le}
+use Rattle.fields.proofs.Cutting.{next-le}
 use Rattle.saying.proofs.Fields.{says-nothing, one-field, two-fields, cut}
 use Rattle.saying.proofs.read.read_line.Statement.{statement}
 use Rattle.saying.proofs.read.read_line.Tie as tie

@@ -13,7 +13,7 @@ use Rattle.stretch.specs.Part.{part}
 use Rattle.stretch.proofs.Cases.{by-cases}
 use Rattle.stretch.specs.Class.{firstOutside}
 use Rattle.stretch.proofs.Outside.{firstOutside-le}
-use Rattle.saying.specs.Cut.{parted, other, firstOf, nextOf}
+use Rattle.fields.specs.Cut.{parted, other, firstOf, nextOf}
 
 module _ (mark : ℕ) (s : List ℕ) where
   -- a loop that has come to i: it goes on, it stops there, it is at the end

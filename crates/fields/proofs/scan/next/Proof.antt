@@ -4,10 +4,10 @@ use native.Mathlib.Omega.{arith}
 use mathlib.Core.Path.{_≡_, refl, _∙_, sym}
 use lib.ListN.{length}
 use borrow.Author.Needs.{needs}
-use Rattle.saying.specs.Cut.{nextOf}
-use Rattle.saying.proofs.Cutting.{next-on, next-here, next-end}
-use Rattle.saying.proofs.scan.next.Statement.{statement}
-use Rattle.saying.proofs.scan.next.Tie as tie
+use Rattle.fields.specs.Cut.{nextOf}
+use Rattle.fields.proofs.Cutting.{next-on, next-here, next-end}
+use Rattle.fields.proofs.scan.next.Statement.{statement}
+use Rattle.fields.proofs.scan.next.Tie as tie
 
 abbrev Inv-loop : tie.InvT-loop
 Inv-loop s from byte i₀ i = nextOf byte s from ≡ nextOf byte s i
