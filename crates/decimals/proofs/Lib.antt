@@ -1,4 +1,5 @@
 pub mod Digits
+pub mod Leads
 pub mod Reading
 pub mod Writing
 pub mod Worked

@@ -1,2 +1,3 @@
 pub mod Decimal
+pub mod Leads
 pub mod Number

@@ -1,11 +1,13 @@
 // Decimals: the digits of the tenth part, then the last digit.
+use super::Leading;
 use super::Number;
 ghost use mathlib.Core.Path.{_≡_};
 ghost use Prim.Native.Nat.{_+_, _≤_, _<_};
-ghost use lib.ListN.{length, getD};
+ghost use lib.ListN.{length};
 ghost use Rattle.stretch.specs.Over.{over, Wrote};
 ghost use Rattle.decimals.specs.Decimal.{digit, decimal};
-ghost use Rattle.decimals.specs.Number.{numberOf};
+ghost use Rattle.decimals.specs.Leads.{Leads};
+ghost use Rattle.decimals.specs.Number.{numberWithin, numberOf};
 
 fn character(d: u64) -> u8
     requires { ⌜ d < 10 ⌝ }
@@ -46,43 +48,50 @@ pub fn put_decimal(out: &mut [u8], place: usize, n: u64) -> usize
     place + write_decimal(&mut out[place..], n)
 }
 
-// The number of a text that does not begin with 0.
-fn read_digits(s: &[u8]) -> Number
-    requires { ⌜ (0 < length (now s)) × (getD (now s) 0 0 ≡ 0x30 → ⊥) ⌝ }
-    ensures { λ r. ⌜ r ≡ numberOf (now (s .entry)) ⌝ }
+// The digits that `s` begins with, as far as they are those of a number up to `most`.
+pub fn leading_digits(s: &[u8], most: u64) -> Leading
+    ensures { λ r. ⌜ Leads most (now (s .entry)) (r .length) (r .number) ⌝ }
 {
-    let mut n: u64 = 0;
-    let mut i = 0;
-    while i < s.len() {
-        let c = s[i];
-        if c < b'0' {
-            return Number::Absent;
+    let mut number: u64 = 0;
+    let mut length = 0;
+    while length < s.len() {
+        let c = s[length];
+        if c < b'0' || b'9' < c {
+            return Leading { length, number };
         }
-        if b'9' < c {
-            return Number::Absent;
+        if 0 < length && number == 0 {
+            return Leading { length, number };
         }
         let d = (c - b'0') as u64;
-        if (u64::MAX - d) / 10 < n {
-            return Number::Absent;
+        if most < d || (most - d) / 10 < number {
+            return Leading { length, number };
         }
-        n = n * 10 + d;
-        i += 1;
+        number = number * 10 + d;
+        length += 1;
     }
-    Number::Is(n)
+    Leading { length, number }
+}
+
+// The number from `least` to `most` of which `s` is the decimal.
+pub fn read_decimal_within(s: &[u8], least: u64, most: u64) -> Number
+    ensures { λ r. ⌜ r ≡ numberWithin least most (now (s .entry)) ⌝ }
+{
+    let digits = leading_digits(s, most);
+    if digits.length == 0 {
+        return Number::Absent;
+    }
+    if digits.length < s.len() {
+        return Number::Absent;
+    }
+    if digits.number < least {
+        return Number::Absent;
+    }
+    Number::Is(digits.number)
 }
 
 // The number below 2 to the 64th of which `s` is the decimal.
 pub fn read_decimal(s: &[u8]) -> Number
     ensures { λ r. ⌜ r ≡ numberOf (now (s .entry)) ⌝ }
 {
-    if s.len() == 0 {
-        return Number::Absent;
-    }
-    if s[0] != b'0' {
-        return read_digits(s);
-    }
-    if s.len() == 1 {
-        return Number::Is(0);
-    }
-    Number::Absent
+    read_decimal_within(s, 0, u64::MAX)
 }

@@ -1,4 +1,3 @@
-pub mod Fronts
 pub mod Onwards
 pub mod Readings
 pub mod Numerals

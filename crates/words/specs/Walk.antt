@@ -29,14 +29,6 @@ pub record Onward (Kind : List ℕ → Type 0) (text : List ℕ) (a b : Walk) : 
   pub goes : a .on ≡ true → b .on ≡ true → Goes Kind (drop (a .at) text) (b .at - a .at)
   pub stops : a .on ≡ true → b .on ≡ false → Stops Kind (drop (a .at) text) (b .at - a .at)
 
--- the first k bytes of s are digits of a number up to a limit, as many as there can be; without any, the number is 0
-pub record Numbers (most : ℕ) (s : List ℕ) (k number : ℕ) : Type 0 where
-  pub within : k ≤ length s
-  pub small : number ≤ most
-  pub none : k ≡ 0 → number ≡ 0
-  pub digits : 0 < k → take k s ≡ decimal number
-  pub furthest : (j : ℕ) → k < j → j ≤ length s → Begins (DecimalTo most) (take j s) → ⊥
-
 -- a walk over a decimal, and the number that was read; 0 where it stops
 pub record Counts (most : ℕ) (text : List ℕ) (a b : Walk) (number : ℕ) : Type 0 where
   pub onward : Onward (DecimalTo most) text a b

@@ -2,23 +2,17 @@
 // good where no accepted text goes on.
 use super::Counted;
 use super::Walk;
+use decimals::leading_digits;
 use letters::first_foreign;
 use letters::first_outside_base64url;
 use stretch::common_prefix;
 use stretch::smaller;
 ghost use Prim.Native.Nat.{_≤_};
 ghost use lib.ListN.{length};
-ghost use Rattle.refusal.specs.Limits.{referenceLimit};
 ghost use Rattle.words.specs.Vocabulary.{Word, Digest, Residues};
-ghost use Rattle.words.specs.Walk.{Onward, Numbers, Counts};
+ghost use Rattle.words.specs.Walk.{Onward, Counts};
 
 pub const DIGEST_LENGTH: usize = 32;
-
-// Digits that begin a text: how many, and their number.
-pub struct Leading {
-    pub length: usize,
-    pub number: u64,
-}
 
 // Past one word.
 pub fn past_word(text: &[u8], a: Walk, word: &[u8]) -> Walk
@@ -70,35 +64,9 @@ pub fn past_residues(text: &[u8], a: Walk, most: usize) -> Walk
     }
 }
 
-// The digits that `s` begins with, as far as they are those of a number up to `most`.
-fn leading_digits(s: &[u8], most: u64) -> Leading
-    requires { ⌜ most ≤ referenceLimit ⌝ }
-    ensures { λ r. ⌜ Numbers most (now (s .entry)) (r .length) (r .number) ⌝ }
-{
-    let mut number: u64 = 0;
-    let mut length = 0;
-    while length < s.len() {
-        let c = s[length];
-        if c < b'0' || b'9' < c {
-            return Leading { length, number };
-        }
-        if 0 < length && number == 0 {
-            return Leading { length, number };
-        }
-        let longer = number * 10 + (c - b'0') as u64;
-        if most < longer {
-            return Leading { length, number };
-        }
-        number = longer;
-        length += 1;
-    }
-    Leading { length, number }
-}
-
 // Past the decimal of a number up to `most`.
 pub fn past_decimal(text: &[u8], a: Walk, most: u64) -> Counted
     requires { ⌜ a .at ≤ length (now text) ⌝ }
-    requires { ⌜ most ≤ referenceLimit ⌝ }
     ensures { λ r. ⌜ Counts most (now (text .entry)) a (r .walk) (r .number) ⌝ }
 {
     if !a.on {

@@ -8,7 +8,7 @@ use Rattle.words.proofs.words.past_decimal.Tie as tie
 
 returns : tie.Need-returns
 returns c = let s = c .before .before .before in
-    counts-stopped _ _ _ (s .pre .0) (not-true _ (c .if1 .taken))
+    counts-stopped _ _ _ (s .pre) (not-true _ (c .if1 .taken))
 
 sub-leading-digits : tie.Need-sub-leading-digits
 sub-leading-digits c = search needs
@@ -27,7 +27,7 @@ add-t9 c = search needs
 
 returns-2 : tie.Need-returns-2
 returns-2 c = let s = c .before .before .before .before .before in
-    counts-step _ _ (s .args .a) (s .pre .0) (not-false _ (c .before .before .if1 .left)) _ _ (rw lent-tail at (c .leading-digits .ensures))
+    counts-step _ _ (s .args .a) (s .pre) (not-false _ (c .before .before .if1 .left)) _ _ (rw lent-tail at (c .leading-digits .ensures))
 
 pub past-decimal-spec : {M : Type 1} → statement M
 past-decimal-spec =
