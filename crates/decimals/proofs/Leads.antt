@@ -11,7 +11,8 @@ use Rattle.decimals.specs.Decimal.{digit, decimal}
 use Rattle.decimals.specs.Number.{valueFrom, value, numberWithin}
 use Rattle.decimals.specs.Leads.{Leads}
 use Rattle.decimals.proofs.Digits.{decimal-below, decimal-on, decimal-long, decimal-digits, decimal-front}
-use Rattle.decimals.proofs.Reading.{value-on, value-snoc, value-decimal, decimal-injective, number-is, number-none}
+use Rattle.decimals.proofs.Reading.{value-on, value-snoc, value-decimal, decimal-injective}
+use Rattle.decimals.proofs.Reading.{number-is, number-none}
 
 -- k digits of a number n go on with the byte c, to a decimal up to a limit
 pub record Takes (most k n c : ℕ) : Type 0 where
@@ -41,18 +42,21 @@ goes-takes most s c n v d m rest h front =
     let here : getD (decimal m) (length s) 0 ≡ c = rw (← front) (getD-at s c rest 0 (length s) refl) in
     let bounds = decimal-digits m (length s) (rw front at room) in
     let upto : value (s ++ (c ∷ [])) ≤ value ((s ++ (c ∷ [])) ++ rest) = value-on (s ++ (c ∷ [])) rest in
-    let whole : value ((s ++ (c ∷ [])) ++ rest) ≡ m = ap value (append-assoc s (c ∷ []) rest ∙ front) ∙ value-decimal m in
+    let whole : value ((s ++ (c ∷ [])) ++ rest) ≡ m
+    = ap value (append-assoc s (c ∷ []) rest ∙ front) ∙ value-decimal m in
     let more : value (s ++ (c ∷ [])) ≡ n * 10 + (c - 0x30) = value-snoc s c ∙ ap (λ (x : ℕ). x * 10 + (c - 0x30)) v in
     record {
       least = rw here at (bounds .0);
       greatest = rw here at (bounds .1);
-      leads = λ l. positive n (d l) (rw (List·getD-append s (c ∷ rest) 0 0 l) at (decimal-lead m (s ++ (c ∷ rest)) (omega arith) front));
+      leads = λ l. positive n (d l)
+          (rw (List·getD-append s (c ∷ rest) 0 0 l) at (decimal-lead m (s ++ (c ∷ rest)) (omega arith) front));
       small = omega arith;
     }
   where
     positive : (k : ℕ) → s ≡ decimal k → 0x31 ≤ getD s 0 0 → 0 < k
     positive zero e h =
-        let z : getD s 0 0 ≡ 0x30 = ap (λ (l : List ℕ). getD l 0 0) (e ∙ decimal-below 0 (omega arith)) in absurd (omega arith)
+        let z : getD s 0 0 ≡ 0x30 = ap (λ (l : List ℕ). getD l 0 0) (e ∙ decimal-below 0 (omega arith)) in
+        absurd (omega arith)
     positive (suc k) e h = omega arith
 
 module _ (most : ℕ) (s : List ℕ) where
@@ -104,20 +108,22 @@ module _ (most : ℕ) (s : List ℕ) where
         digits = l .digits;
         furthest = λ j h g m rest small e.
             (let long : length (take k s) ≡ k = length-take-le k s (l .within) in
-            f (omega arith) (rw long at (goes-takes most (take k s) (getD s k 0) n (read-value k n l) (λ p. l .digits (omega arith))
-            m (drop (suc k) (take j s) ++ rest) small (sym (longer k j h g rest) ∙ e))));
+            f (omega arith) (rw long at (goes-takes most (take k s) (getD s k 0) n (read-value k n l)
+            (λ p. l .digits (omega arith)) m (drop (suc k) (take j s) ++ rest) small (sym (longer k j h g rest) ∙ e))));
       }
 
   -- a whole text: more than the digits, no digits, a number too small, or the number
   module _ (least k n : ℕ) (r : Leads most s k n) where
+    not-longer : k < length s → (m : ℕ) → m ≤ most → s ≡ decimal m → ⊥
+    not-longer h m g e =
+        r .furthest (length s) h (omega arith) m [] g
+        (append-nil (take (length s) s) ∙ take-all (length s) s (omega arith) ∙ e)
+
     pub whole-more : k < length s → numberWithin least most s ≡ Absent
-    whole-more h = number-none least most s (λ m _ g e.
-        r .furthest (length s) h (omega arith) m [] g (append-nil (take (length s) s) ∙ take-all (length s) s (omega arith) ∙ e))
+    whole-more h = number-none least most s (λ m _. not-longer h m)
 
     pub whole-none : k ≡ 0 → numberWithin least most s ≡ Absent
-    whole-none h = number-none least most s (λ m l g e.
-        r .furthest (length s) (omega (arith, decimal-long m, ap length e)) (omega arith) m [] g
-        (append-nil (take (length s) s) ∙ take-all (length s) s (omega arith) ∙ e))
+    whole-none h = number-none least most s (λ m _ g e. not-longer (omega (arith, decimal-long m, ap length e)) m g e)
 
     whole : (k ≡ 0 → ⊥) → length s ≤ k → s ≡ decimal n
     whole f h = sym (take-all k s h) ∙ r .digits (omega arith)

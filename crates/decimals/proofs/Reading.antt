@@ -59,7 +59,8 @@ module _ (least most : ℕ) (s : List ℕ) where
       by-cases (leb least (value s))
       (λ l. by-cases (leb (value s) most)
       (λ h. by-cases (same s (decimal (value s)))
-      (λ t. absurd (f (value s) (leb-true least (value s) l) (leb-true (value s) most h) (same-eq s (decimal (value s)) t)))
+      (λ t. absurd
+      (f (value s) (leb-true least (value s) l) (leb-true (value s) most h) (same-eq s (decimal (value s)) t)))
       (λ t. rw (l, h, t)))
       (λ h. rw (l, h)))
       (λ l. rw l)

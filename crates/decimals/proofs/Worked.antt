@@ -20,3 +20,9 @@ read = refl
 pub unread : map numberOf (ascii "" ∷ ascii "00" ∷ ascii "01" ∷ ascii "+1" ∷ ascii "1a" ∷ ascii "1 " ∷ []) ≡ Absent ∷ Absent ∷ Absent ∷ Absent ∷ Absent ∷ Absent ∷ []
 unfolding numberOf numberWithin value valueFrom same decimal enough decimalIn
 unread = refl
+
+-- a place in a reference of 11 residues, counted from 1
+pub within : map (numberWithin 1 11) (ascii "0" ∷ ascii "1" ∷ ascii "11" ∷ ascii "12" ∷ ascii "01" ∷ ascii "" ∷ [])
+    ≡ Absent ∷ Is 1 ∷ Is 11 ∷ Absent ∷ Absent ∷ Absent ∷ []
+unfolding numberWithin value valueFrom same decimal enough decimalIn
+within = refl

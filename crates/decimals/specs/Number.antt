@@ -21,7 +21,9 @@ value s = valueFrom 0 s
 -- a number from a lower to an upper limit of which s is the decimal, or none
 unfoldable pub numberWithin : ℕ → ℕ → List ℕ → Number
 numberWithin least most s =
-    cond (leb least (value s)) (cond (leb (value s) most) (cond (same s (decimal (value s))) (Is (value s)) Absent) Absent) Absent
+    cond (leb least (value s))
+    (cond (leb (value s) most) (cond (same s (decimal (value s))) (Is (value s)) Absent) Absent)
+    Absent
 
 -- a number below 2 to the 64th of which s is the decimal, or none
 unfoldable pub numberOf : List ℕ → Number

@@ -22,7 +22,8 @@ shared-slice-read-c c = omega arith
 
 returns : tie.Need-returns Inv-loop μ-loop
 returns c = let l = c .before .before .before .loop in
-    read-end _ _ (l .length) (l .number) (l .inv) (λ h t. ⊎-elim (λ w. omega arith) (λ w. omega (arith, ltb-true)) (c .if1 .came))
+    read-end _ _ (l .length) (l .number) (l .inv)
+    (λ h t. ⊎-elim (λ w. omega arith) (λ w. omega (arith, ltb-true)) (c .if1 .came))
 
 returns-2 : tie.Need-returns-2 Inv-loop μ-loop
 returns-2 c = let l = c .before .before .before .before .before .before .loop in
@@ -33,7 +34,8 @@ cast-d c = omega (arith, ltb-false)
 
 returns-3 : tie.Need-returns-3 Inv-loop μ-loop
 returns-3 c = let l = c .before .before .before .before .before .before .loop in
-    read-end _ _ (l .length) (l .number) (l .inv) (λ h t. ⊎-elim (λ w. omega arith) (λ w. omega (arith, ltb-true)) (c .if5 .came))
+    read-end _ _ (l .length) (l .number) (l .inv)
+    (λ h t. ⊎-elim (λ w. omega arith) (λ w. omega (arith, ltb-true)) (c .if5 .came))
 
 mul-number : tie.Need-mul-number Inv-loop μ-loop
 mul-number c = omega (arith, ltb-false)

@@ -16,11 +16,13 @@ returns-2 c = sym (whole-more _ _ _ _ _ (c .before .before .before .before .lead
 
 returns-3 : tie.Need-returns-3
 returns-3 c = let b = c .before .before .before .before in
-    sym (whole-low _ _ _ _ _ (b .before .before .leading-digits .ensures) (b .if1 .left) (c .before .before .if2 .left) (c .if3 .taken))
+    let r = b .before .before .leading-digits .ensures in
+    sym (whole-low _ _ _ _ _ r (b .if1 .left) (c .before .before .if2 .left) (c .if3 .taken))
 
 returns-4 : tie.Need-returns-4
 returns-4 c = let b = c .before .before .before .before in
-    sym (whole-is _ _ _ _ _ (b .before .before .leading-digits .ensures) (b .if1 .left) (c .before .before .if2 .left) (c .if3 .left))
+    let r = b .before .before .leading-digits .ensures in
+    sym (whole-is _ _ _ _ _ r (b .if1 .left) (c .before .before .if2 .left) (c .if3 .left))
 
 pub read-decimal-within-spec : {M : Type 1} → statement M
 read-decimal-within-spec =
