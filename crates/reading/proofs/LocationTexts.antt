@@ -64,10 +64,10 @@ open-end =
     open-then (DecimalTo referenceLimit) (λ w. FromMiddle (value w)) (decimal 0) (decimal-to 0 (omega arith)) (open-middle (value (decimal 0)))
 
 apart-end : Apart (DecimalTo referenceLimit) (λ w. FromMiddle (value w))
-apart-end = apart-decimal referenceLimit beforeStart (omega arith) (λ w _. FromStart (value w)) (λ h g. omega arith)
+apart-end = apart-decimal 0 referenceLimit beforeStart (omega arith) (λ w _. FromStart (value w)) (λ h g. omega arith)
 
 apart-start : (end : ℕ) → Apart (DecimalTo end) (λ _. FromType)
-apart-start end = apart-decimal end beforeDigest (omega arith) (λ _ _. FromDigest) (λ h g. omega arith)
+apart-start end = apart-decimal 0 end beforeDigest (omega arith) (λ _ _. FromDigest) (λ h g. omega arith)
 
 -- what stands behind the start, and behind the end
 abbrev behindStart : List ℕ → List ℕ
@@ -111,8 +111,9 @@ words-location t f₁ =
 
 -- a walk over all its words
 module _ {text : List ℕ} {endNumber startNumber : ℕ} {head end middle start digest behind close : Walk}
-    (o₁ : Onward (Word beforeEnd) text (record { at = 0; on = true }) head) (o₂ : Counts referenceLimit text head end endNumber)
-    (o₃ : Onward (Word beforeStart) text end middle) (o₄ : Counts endNumber text middle start startNumber)
+    (o₁ : Onward (Word beforeEnd) text (record { at = 0; on = true }) head)
+    (o₂ : Counts 0 referenceLimit text head end endNumber)
+    (o₃ : Onward (Word beforeStart) text end middle) (o₄ : Counts 0 endNumber text middle start startNumber)
     (o₅ : Onward (Word beforeDigest) text start digest) (o₆ : Onward Digest text digest behind) (o₇ : Onward (Word behindDigest) text behind close) where
   at-end : Reach LocationText text (λ v. beforeEnd ++ v) FromEnd head
   at-end = reach-word (reach-begun text location-words words-location) o₁ open-end

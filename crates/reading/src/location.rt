@@ -21,9 +21,9 @@ pub fn read_location(text: &[u8]) -> LocationRead
 {
     let begun = Walk { at: 0, on: true };
     let head = past_word(text, begun, &BEFORE_END);
-    let end = past_decimal(text, head, REFERENCE_LIMIT);
+    let end = past_decimal(text, head, 0, REFERENCE_LIMIT);
     let middle = past_word(text, end.walk, &BEFORE_START);
-    let start = past_decimal(text, middle, end.number);
+    let start = past_decimal(text, middle, 0, end.number);
     let digest = past_word(text, start.walk, &BEFORE_DIGEST);
     let behind = past_digest(text, digest);
     let close = past_word(text, behind, &BEHIND_DIGEST);

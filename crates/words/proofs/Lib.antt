@@ -1,5 +1,6 @@
 pub mod Onwards
 pub mod Readings
+pub mod Ranges
 pub mod Numerals
 pub mod Following
 pub mod Vocabulary

@@ -42,9 +42,9 @@ onward-once Kind text a b₁ b₂ o₁ o₂ =
         (λ e. by-cases (b₂ .on) (λ f. e ∙ sym f) (λ f. absurd (not-both o₁ o₂ t e f)))
         (λ e. by-cases (b₂ .on) (λ f. absurd (not-both o₂ o₁ t f e)) (λ f. e ∙ sym f))
 
-pub counts-once : (most : ℕ) (text : List ℕ) (a : Walk) (r₁ r₂ : Counted)
-    → Counts most text a (r₁ .walk) (r₁ .number) → Counts most text a (r₂ .walk) (r₂ .number) → r₁ ≡ r₂
-counts-once most text a r₁ r₂ c₁ c₂ = λ i. record { walk = walk i; number = number i }
+pub counts-once : (least most : ℕ) (text : List ℕ) (a : Walk) (r₁ r₂ : Counted)
+    → Counts least most text a (r₁ .walk) (r₁ .number) → Counts least most text a (r₂ .walk) (r₂ .number) → r₁ ≡ r₂
+counts-once least most text a r₁ r₂ c₁ c₂ = λ i. record { walk = walk i; number = number i }
   where
     walk : r₁ .walk ≡ r₂ .walk
     walk = onward-once _ text a (r₁ .walk) (r₂ .walk) (c₁ .onward) (c₂ .onward)

@@ -129,5 +129,6 @@ goes-residues most s n first =
       };
       furthest = λ j h g b.
           (let few : length (take j s) + length (b .rest) ≤ most = rw length-append at (b .whole .few) in
-          omega (arith, first-max residue most s n first j (b .rest) g (omega (arith, length-take-le j s g)) (b .whole .residues)));
+          let room : j ≤ most = omega (arith, length-take-le j s g) in
+          omega (arith, first-max residue most s n first j (b .rest) g room (b .whole .residues)));
     }

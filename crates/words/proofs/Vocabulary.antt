@@ -12,11 +12,11 @@ use Rattle.stretch.proofs.Class.{every-at}
 use Rattle.decimals.specs.Decimal.{decimal}
 use Rattle.decimals.proofs.Digits.{decimal-digits}
 use Rattle.words.specs.Prefix.{Begins}
-use Rattle.words.specs.Vocabulary.{Word, Digest, Residues, DecimalTo}
+use Rattle.words.specs.Vocabulary.{Word, Digest, Residues, DecimalFrom, DecimalTo}
 use Rattle.words.proofs.Following.{Then, Apart}
 
 pub decimal-to : {most : ℕ} (n : ℕ) → n ≤ most → DecimalTo most (decimal n)
-decimal-to n h = record { number = n; small = h; digits = refl }
+decimal-to n h = record { number = n; large = omega arith; small = h; digits = refl }
 
 pub some-digest : Digest (replicate 32 0x41)
 unfolding every base64url
@@ -51,8 +51,9 @@ module _ (word : List ℕ) (nonempty : 0 < length word) (N : List ℕ → List �
       ap (λ (l : List ℕ). getD l 0 0) (t .joined ∙ ap (λ (l : List ℕ). l ++ t .rest) (t .is-word)) ∙ List·getD-append word (t .rest) 0 0 nonempty
 
 -- words of digits, or of residues, before a word that begins with none
-module _ (most : ℕ) (word : List ℕ) (nonempty : 0 < length word) (N : List ℕ → List ℕ → List ℕ → Type 0) where
-  pub apart-decimal : (0x30 ≤ getD word 0 0 → getD word 0 0 ≤ 0x39 → ⊥) → Apart (DecimalTo most) (λ w. Then (Word word) (N w))
+module _ (least most : ℕ) (word : List ℕ) (nonempty : 0 < length word) (N : List ℕ → List ℕ → List ℕ → Type 0) where
+  pub apart-decimal : (0x30 ≤ getD word 0 0 → getD word 0 0 ≤ 0x39 → ⊥)
+      → Apart (DecimalFrom least most) (λ w. Then (Word word) (N w))
   apart-decimal f w c k b n =
       let d = b .whole in
       let there : getD (decimal (d .number)) (length w) 0 ≡ getD word 0 0
@@ -60,8 +61,10 @@ module _ (most : ℕ) (word : List ℕ) (nonempty : 0 < length word) (N : List �
       let among = decimal-digits (d .number) (length w) (omega (arith, ap length (d .digits), longer w (b .rest) c)) in
       f (omega (arith, among .0, there)) (omega (arith, among .1, there))
 
+module _ (most : ℕ) (word : List ℕ) (nonempty : 0 < length word) (N : List ℕ → List ℕ → List ℕ → Type 0) where
   pub apart-residues : residue (getD word 0 0) ≡ false → Apart (Residues most) (λ w. Then (Word word) (N w))
   apart-residues f w c k b n =
       let among : residue c ≡ true
-      = ap residue (sym (at-seam w (b .rest) c)) ∙ every-at residue (w ++ (c ∷ []) ++ b .rest) (length w) (b .whole .residues) (omega (arith, longer w (b .rest) c)) in
+      = ap residue (sym (at-seam w (b .rest) c))
+      ∙ every-at residue (w ++ (c ∷ []) ++ b .rest) (length w) (b .whole .residues) (omega (arith, longer w (b .rest) c)) in
       let z : _≡_ {A = ℕ} 0 1 = cc (begins-first word nonempty (N w) c n) in omega arith

@@ -22,8 +22,13 @@ pub record Residues (most : ℕ) (s : List ℕ) : Type 0 where
   pub few : length s ≤ most
   pub residues : every residue s ≡ true
 
--- the decimals of the numbers up to a limit
-pub record DecimalTo (most : ℕ) (s : List ℕ) : Type 0 where
+-- the decimals of the numbers from a lower to an upper limit
+pub record DecimalFrom (least most : ℕ) (s : List ℕ) : Type 0 where
   pub number : ℕ
+  pub large : least ≤ number
   pub small : number ≤ most
   pub digits : s ≡ decimal number
+
+-- those of the numbers up to a limit
+abbrev pub DecimalTo : ℕ → List ℕ → Type 0
+DecimalTo most = DecimalFrom 0 most

@@ -3,6 +3,7 @@
 //
 // specs/Prefix.antt has the longest prefix that begins some accepted text, specs/Vocabulary.antt the
 // words, specs/Walk.antt how a text is read by them.
+mod range;
 mod words;
 
 pub use words::DIGEST_LENGTH;

@@ -2,6 +2,7 @@
 // good where no accepted text goes on.
 use super::Counted;
 use super::Walk;
+use super::range::longest_reaching;
 use decimals::leading_digits;
 use letters::first_foreign;
 use letters::first_outside_base64url;
@@ -64,10 +65,11 @@ pub fn past_residues(text: &[u8], a: Walk, most: usize) -> Walk
     }
 }
 
-// Past the decimal of a number up to `most`.
-pub fn past_decimal(text: &[u8], a: Walk, most: u64) -> Counted
+// Past the decimal of a number from `least` to `most`.
+pub fn past_decimal(text: &[u8], a: Walk, least: u64, most: u64) -> Counted
     requires { ⌜ a .at ≤ length (now text) ⌝ }
-    ensures { λ r. ⌜ Counts most (now (text .entry)) a (r .walk) (r .number) ⌝ }
+    requires { ⌜ least ≤ most ⌝ }
+    ensures { λ r. ⌜ Counts least most (now (text .entry)) a (r .walk) (r .number) ⌝ }
 {
     if !a.on {
         return Counted { walk: a, number: 0 };
@@ -75,11 +77,31 @@ pub fn past_decimal(text: &[u8], a: Walk, most: u64) -> Counted
     let from = a.at;
     let digits = leading_digits(&text[from..], most);
     let n = digits.length;
+    let number = digits.number;
+    if n == 0 {
+        return Counted {
+            walk: Walk {
+                at: from,
+                on: false,
+            },
+            number: 0,
+        };
+    }
+    if number < least {
+        let reached = longest_reaching(n, number, least, most);
+        return Counted {
+            walk: Walk {
+                at: from + reached,
+                on: false,
+            },
+            number: 0,
+        };
+    }
     Counted {
         walk: Walk {
             at: from + n,
-            on: 0 < n,
+            on: true,
         },
-        number: digits.number,
+        number,
     }
 }

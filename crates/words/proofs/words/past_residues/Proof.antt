@@ -37,7 +37,8 @@ returns-2 : tie.Need-returns-2
 returns-2 c =
     let s = c .before .before .before .before .before .before in
     let first = rw (c .before .before .smaller .ensures, lent-most) at (c .first-foreign .ensures) in
-    onward-goes (Residues (s .args .most)) _ (s .args .a) (s .pre) (not-false _ (c .before .before .before .if1 .left)) (c .first-foreign .result)
+    onward-goes (Residues (s .args .most)) _ (s .args .a) (s .pre)
+    (not-false _ (c .before .before .before .if1 .left)) (c .first-foreign .result)
     (goes-residues (s .args .most) _ _ first)
 
 -- where the walk is then lies within the text
