@@ -144,22 +144,18 @@ reads-allele-says text p (accepts-allele a) =
       sequence = lies-between text front (a .sequence) behindSequence _ _ whole (simp length-append (omega (arith, a .digests .long))) refl;
     }
 
--- and so are the stretches that are handed back
-module _ (text : List ℕ) where
-  pub digest-of-accepted : (p : LocationParts) → ReadsLocation text (Accepted p) → HandsBack LocationText (λ t a. a .digest) text (part text (p .digest) (p .digest + 32))
-  digest-of-accepted p r = let s = reads-location-says text p r in rw (s .digest .stretch) (hands (s .is))
+-- a text that is refused says nothing
+pub refused-location : (text : List ℕ) (r : Refusal) → ReadsLocation text (Refused r) → LocationText text → ⊥
+refused-location text _ (refuses i r) = r .other
 
-  pub digest-of-refused : (r : Refusal) → ReadsLocation text (Refused r) → HandsBack LocationText (λ t a. a .digest) text []
-  digest-of-refused _ (refuses i r) = nothing (r .other)
+pub refused-allele : (text : List ℕ) (r : Refusal) → ReadsAllele text (AlleleRefused r) → AlleleText text → ⊥
+refused-allele text _ (refuses-allele i r) = r .other
 
-  pub location-of-accepted : (p : AlleleParts) → ReadsAllele text (AlleleAccepted p) → HandsBack AlleleText (λ t a. a .location) text (part text (p .location) (p .location + 32))
-  location-of-accepted p r = let s = reads-allele-says text p r in rw (s .location .stretch) (hands (s .is))
+-- so a part of the text is handed back where it is accepted, and its empty part where it is not
+module _ {Kind : List ℕ → Type 0} {stretch : (text : List ℕ) → Kind text → List ℕ} {text s : List ℕ} where
+  pub hands-part : {from long : ℕ} (is : Kind text) → Lies text from long (stretch text is) → s ≡ part text from (from + long)
+      → HandsBack Kind stretch text s
+  hands-part is l e = rw (e, l .stretch) (hands is)
 
-  pub location-of-refused : (r : Refusal) → ReadsAllele text (AlleleRefused r) → HandsBack AlleleText (λ t a. a .location) text []
-  location-of-refused _ (refuses-allele i r) = nothing (r .other)
-
-  pub sequence-of-accepted : (p : AlleleParts) → ReadsAllele text (AlleleAccepted p) → HandsBack AlleleText (λ t a. a .sequence) text (part text (p .sequence) (p .sequence + p .length))
-  sequence-of-accepted p r = let s = reads-allele-says text p r in rw (s .sequence .stretch) (hands (s .is))
-
-  pub sequence-of-refused : (r : Refusal) → ReadsAllele text (AlleleRefused r) → HandsBack AlleleText (λ t a. a .sequence) text []
-  sequence-of-refused _ (refuses-allele i r) = nothing (r .other)
+  pub hands-none : (Kind text → ⊥) → s ≡ part text 0 0 → HandsBack Kind stretch text s
+  hands-none other e = rw e (nothing other)

@@ -1,6 +1,7 @@
 // Allele texts.
 use super::AlleleParts;
 use super::AlleleRead;
+use super::part::part_of;
 use refusal::SEQUENCE_LIMIT;
 use refusal::TEXT_NOT_ACCEPTED;
 use refusal::refuse;
@@ -40,11 +41,8 @@ pub fn location_of(text: &[u8]) -> &[u8]
     ensures { λ r. ⌜ HandsBack AlleleText (λ t a. a .location) (now (text .entry)) (now r) ⌝ }
 {
     match read_allele(text) {
-        AlleleRead::Accepted(parts) => {
-            let from = parts.location as usize;
-            &text[from..from + DIGEST_LENGTH]
-        }
-        AlleleRead::Refused(_) => &text[0..0],
+        AlleleRead::Accepted(parts) => part_of(text, parts.location, DIGEST_LENGTH as u64),
+        AlleleRead::Refused(_) => part_of(text, 0, 0),
     }
 }
 
@@ -53,11 +51,7 @@ pub fn sequence_of(text: &[u8]) -> &[u8]
     ensures { λ r. ⌜ HandsBack AlleleText (λ t a. a .sequence) (now (text .entry)) (now r) ⌝ }
 {
     match read_allele(text) {
-        AlleleRead::Accepted(parts) => {
-            let from = parts.sequence as usize;
-            let to = from + parts.length as usize;
-            &text[from..to]
-        }
-        AlleleRead::Refused(_) => &text[0..0],
+        AlleleRead::Accepted(parts) => part_of(text, parts.sequence, parts.length),
+        AlleleRead::Refused(_) => part_of(text, 0, 0),
     }
 }

@@ -5,6 +5,7 @@
 // specs/Accepted.antt has the texts that are accepted and what reading them answers.
 mod allele;
 mod location;
+mod part;
 
 pub use allele::location_of;
 pub use allele::read_allele;

@@ -1,6 +1,7 @@
 // Location texts.
 use super::LocationParts;
 use super::LocationRead;
+use super::part::part_of;
 use refusal::REFERENCE_LIMIT;
 use refusal::TEXT_NOT_ACCEPTED;
 use refusal::refuse;
@@ -42,10 +43,7 @@ pub fn digest_of(text: &[u8]) -> &[u8]
     ensures { λ r. ⌜ HandsBack LocationText (λ t a. a .digest) (now (text .entry)) (now r) ⌝ }
 {
     match read_location(text) {
-        LocationRead::Accepted(location) => {
-            let from = location.digest as usize;
-            &text[from..from + DIGEST_LENGTH]
-        }
-        LocationRead::Refused(_) => &text[0..0],
+        LocationRead::Accepted(location) => part_of(text, location.digest, DIGEST_LENGTH as u64),
+        LocationRead::Refused(_) => part_of(text, 0, 0),
     }
 }

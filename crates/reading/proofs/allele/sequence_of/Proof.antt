@@ -1,7 +1,6 @@
--- The bytes that the text's reading points at, or none of a text that is refused.
-use native.Mathlib.Omega.{arith}
+-- The part that the text's reading points at, or the empty one of a text that is refused.
 use borrow.Author.Needs.{needs}
-use Rattle.reading.proofs.Promises.{reads-allele-says, sequence-of-accepted, sequence-of-refused}
+use Rattle.reading.proofs.Promises.{reads-allele-says, refused-allele, hands-part, hands-none}
 use Rattle.reading.proofs.allele.sequence_of.Statement.{statement}
 use Rattle.reading.proofs.allele.sequence_of.Tie as tie
 
@@ -11,58 +10,28 @@ read-allele-requires c κs = search needs
 enum-known-parts : tie.Need-enum-known-parts
 enum-known-parts c = search needs
 
-add-to : tie.Need-add-to
-add-to c =
+part-of-requires : tie.Need-part-of-requires
+part-of-requires c κs =
     let f = c .before in
-    let s = reads-allele-says _ (f .parts .given .0 .0) (rw (f .parts .given .1) at (f .before .before .read-allele .ensures)) in
-    omega (arith, s .sequence .within)
-
-sub-result : tie.Need-sub-result
-sub-result c = search needs
-
-part-result-start : tie.Need-part-result-start
-part-result-start c = search needs
-
-part-result-end : tie.Need-part-result-end
-part-result-end c =
-    let f = c .before in
-    let s = reads-allele-says _ (f .parts .given .0 .0) (rw (f .parts .given .1) at (f .before .before .read-allele .ensures)) in
-    omega (arith, s .sequence .within)
+    reads-allele-says _ (f .parts .given .0 .0) (rw (f .parts .given .1) at (f .before .before .read-allele .ensures)) .sequence .within
 
 enum-told : tie.Need-enum-told
 enum-told c = search needs
 
-sub-result-2 : tie.Need-sub-result-2
-sub-result-2 c = search needs
-
-part-result-start-2 : tie.Need-part-result-start-2
-part-result-start-2 c = search needs
-
-part-result-end-2 : tie.Need-part-result-end-2
-part-result-end-2 c = search needs
+part-of-requires-2 : tie.Need-part-of-requires-2
+part-of-requires-2 c κs = search needs
 
 returns : tie.Need-returns
 returns c =
     let f = c .before .before in
-    sequence-of-accepted _ (f .parts .given .0 .0) (rw (f .parts .given .1) at (f .before .before .read-allele .ensures))
+    let s = reads-allele-says _ (f .parts .given .0 .0) (rw (f .parts .given .1) at (f .before .before .read-allele .ensures)) in
+    hands-part (s .is) (s .sequence) (c .part-of .ensures)
 
 returns-2 : tie.Need-returns-2
 returns-2 c = let f = c .before in
-    sequence-of-refused _ _ (rw (f .enum-told .given .1) at (f .before .before .read-allele .ensures))
+    hands-none (refused-allele _ _ (rw (f .enum-told .given .1) at (f .before .before .read-allele .ensures))) (c .part-of2 .ensures)
 
 pub sequence-of-spec : {M : Type 1} → statement M
 sequence-of-spec =
     tie.close
-    (tie.spec
-    read-allele-requires
-    enum-known-parts
-    add-to
-    sub-result
-    part-result-start
-    part-result-end
-    enum-told
-    sub-result-2
-    part-result-start-2
-    part-result-end-2
-    returns
-    returns-2)
+    (tie.spec read-allele-requires enum-known-parts part-of-requires enum-told part-of-requires-2 returns returns-2)
