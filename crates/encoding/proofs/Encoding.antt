@@ -12,6 +12,7 @@ use Rattle.stretch.specs.Over.{over}
 use Rattle.stretch.proofs.Over.{over-next, over-tail-front}
 use Rattle.stretch.specs.Below.{below}
 use Rattle.stretch.proofs.Below.{below-at}
+use Rattle.letters.specs.Letters.{digestLength}
 use Rattle.sha512.specs.Message.{sha512}
 use Rattle.sha512.proofs.Bytes.{length-sha512}
 use Rattle.encoding.specs.Base64.{character, group, encoded}
@@ -60,18 +61,18 @@ encode-turn l d i h =
     over-next l 0 (i * 4) (encoded (take (i * 3) d)) _ (omega arith) (sym (length-encoded i d (omega arith)) ∙ omega arith)
     ∙ rw (add-one i, add-one (i * 3), e, encoded-more i d (omega arith))
 
-pub length-digestText : (d : List ℕ) → 24 ≤ length d → length (digestText d) ≡ 32
+pub length-digestText : (d : List ℕ) → 24 ≤ length d → length (digestText d) ≡ digestLength
 unfolding digestText
 length-digestText d h = length-encoded 8 d h
 
-pub length-sha512t24u : (m : List ℕ) → length (sha512t24u m) ≡ 32
+pub length-sha512t24u : (m : List ℕ) → length (sha512t24u m) ≡ digestLength
 unfolding sha512t24u
 length-sha512t24u m = length-digestText (sha512 m) (omega (arith, length-sha512 m))
 
-pub length-identifier : (prefix d : List ℕ) → 24 ≤ length d → length (prefix ++ digestText d) ≡ length prefix + 32
+pub length-identifier : (prefix d : List ℕ) → 24 ≤ length d → length (prefix ++ digestText d) ≡ length prefix + digestLength
 length-identifier prefix d h = rw (length-append prefix (digestText d), length-digestText d h)
 
 -- an identifier written into a tail that was lent and comes back
-pub identifier-laid : (out prefix d : List ℕ) (place : ℕ) → place + (length prefix + 32) ≤ length out → 24 ≤ length d
+pub identifier-laid : (out prefix d : List ℕ) (place : ℕ) → place + (length prefix + digestLength) ≤ length out → 24 ≤ length d
     → take place out ++ (over (take (length out - place) (drop place out)) 0 (prefix ++ digestText d) ++ drop (length out - place) (drop place out)) ≡ over out place (prefix ++ digestText d)
 identifier-laid out prefix d place h n = over-tail-front out place (prefix ++ digestText d) (omega (arith, length-identifier prefix d n))

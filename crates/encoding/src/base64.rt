@@ -4,6 +4,7 @@ ghost use mathlib.Core.Path.{_≡_};
 ghost use Prim.Native.Nat.{_<_, _≤_};
 ghost use lib.ListN.{length};
 ghost use Rattle.stretch.specs.Over.{over};
+ghost use Rattle.letters.specs.Letters.{digestLength};
 ghost use Rattle.encoding.specs.Base64.{character, group};
 ghost use Rattle.encoding.specs.Digest.{digestText};
 
@@ -40,9 +41,9 @@ pub fn group_of(a: u8, b: u8, c: u8) -> [u8; 4]
     ]
 }
 
-// Lays the 32 characters of a digest over the front of `out`.
+// Lays the characters of a digest text over the front of `out`.
 pub fn write_digest_text(out: &mut [u8], digest: &[u8])
-    requires { ⌜ 32 ≤ length (now out) ⌝ }
+    requires { ⌜ digestLength ≤ length (now out) ⌝ }
     requires { ⌜ 24 ≤ length (now digest) ⌝ }
     ensures { λ _. ⌜ now (out .exit) ≡ over (now (out .entry)) 0 (digestText (now (digest .entry))) ⌝ }
 {

@@ -1,5 +1,6 @@
-// Identifiers: a prefix and the 32 characters of a digest.
+// Identifiers: a prefix and a digest text.
 use super::base64::write_digest_text;
+use letters::DIGEST_LENGTH;
 use refusal::Written;
 use stretch::copy;
 ghost use mathlib.Core.Path.{_≡_};
@@ -9,11 +10,12 @@ ghost use lib.ListN.{length};
 ghost use Rattle.stretch.specs.Over.{over};
 ghost use Rattle.refusal.specs.Verdict.{accepted};
 ghost use Rattle.refusal.specs.Writes.{Writes};
+ghost use Rattle.letters.specs.Letters.{digestLength};
 ghost use Rattle.encoding.specs.Digest.{digestText};
 
-// Lays a prefix and the digest's 32 characters over the front of `out`.
+// Lays a prefix and the digest's text over the front of `out`.
 pub fn write_identifier(out: &mut [u8], prefix: &[u8], digest: &[u8])
-    requires { ⌜ length (now prefix) + 32 ≤ length (now out) ⌝ }
+    requires { ⌜ length (now prefix) + digestLength ≤ length (now out) ⌝ }
     requires { ⌜ 24 ≤ length (now digest) ⌝ }
     ensures { λ _. ⌜ now (out .exit) ≡ over (now (out .entry)) 0 (now (prefix .entry) ++ digestText (now (digest .entry))) ⌝ }
 {
@@ -21,14 +23,14 @@ pub fn write_identifier(out: &mut [u8], prefix: &[u8], digest: &[u8])
     write_digest_text(&mut out[prefix.len()..], digest);
 }
 
-// Writes a prefix and the digest's 32 characters into `out`, which has room for them from `place` on.
+// Writes a prefix and the digest's text into `out`, which has room for them from `place` on.
 pub fn place_identifier(out: &mut [u8], place: u64, prefix: &[u8], digest: &[u8]) -> Written
-    requires { ⌜ place + (length (now prefix) + 32) ≤ length (now out) ⌝ }
+    requires { ⌜ place + (length (now prefix) + digestLength) ≤ length (now out) ⌝ }
     requires { ⌜ 24 ≤ length (now digest) ⌝ }
     ensures { λ r. ⌜ Writes accepted (now (prefix .entry) ++ digestText (now (digest .entry))) (now (out .entry)) place r (now (out .exit)) ⌝ }
 {
     let from = place as usize;
     write_identifier(&mut out[from..], prefix, digest);
-    let length = prefix.len() as u64 + 32;
+    let length = (prefix.len() + DIGEST_LENGTH) as u64;
     Written::Bytes(length)
 }

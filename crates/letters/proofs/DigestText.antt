@@ -1,4 +1,4 @@
--- A digest text that is accepted: 32 characters, each of base64url.
+-- A digest text that is accepted: so many characters, each of base64url.
 use Prim.Native.Nat.{ℕ, _≤_}
 use native.Mathlib.Omega.{arith}
 use mathlib.Core.Path.{_≡_}
@@ -10,13 +10,14 @@ use borrow.Author.Tests.{eqb-true, ltb-false, not-false}
 use Rattle.refusal.specs.Verdict.{accepted, verdict}
 use Rattle.refusal.proofs.Verdict.{none-holds}
 use Rattle.stretch.specs.Class.{every, firstOutside}
-use Rattle.letters.specs.Letters.{base64url, digestTextGrounds}
+use Rattle.letters.specs.Letters.{base64url, digestTextGrounds, every, firstOutside, digestLength}
 use Rattle.stretch.proofs.Outside.{firstOutside-le, firstOutside-all}
+use Rattle.letters.proofs.Outside.{firstOutside-le, firstOutside-all}
 
 module _ (d : List ℕ) (v : verdict (digestTextGrounds d) ≡ accepted) where
-  pub digest-long : length d ≡ 32
+  pub digest-long : length d ≡ digestLength
   unfolding digestTextGrounds
-  digest-long = eqb-true (length d) 32 (not-false (eqb (length d) 32) (none-holds (digestTextGrounds d) v 0))
+  digest-long = eqb-true (length d) digestLength (not-false (eqb (length d) digestLength) (none-holds (digestTextGrounds d) v 0))
 
   pub digest-all : every base64url d ≡ true
   unfolding digestTextGrounds

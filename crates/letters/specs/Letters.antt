@@ -43,9 +43,13 @@ foreignGiven s = ground (ltb (foreign s) (length s)) 4 (foreign s)
 abbrev pub foreignNormal : List ℕ → Ground
 foreignNormal s = ground (ltb (foreign s) (length s)) 5 (foreign s)
 
+-- the characters of a digest text
+abbrev pub digestLength : ℕ
+digestLength = 32
+
 -- 7: a digest text of another length, and one with a character outside base64url
 abbrev pub digestTextLength : List ℕ → Ground
-digestTextLength d = ground (not (eqb (length d) 32)) 7 32
+digestTextLength d = ground (not (eqb (length d) digestLength)) 7 digestLength
 
 abbrev pub digestTextCharacter : List ℕ → Ground
 digestTextCharacter d = ground (ltb (firstOutside base64url d) (length d)) 7 (firstOutside base64url d)

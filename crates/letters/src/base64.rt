@@ -34,13 +34,16 @@ pub fn first_outside_base64url(s: &[u8]) -> usize
     i
 }
 
-// Accepted is a text of 32 base64url characters; any other is refused under 7, with 32 where its
-// length is another, else with the offset of its first bad character.
+// The characters of a digest text.
+pub const DIGEST_LENGTH: usize = 32;
+
+// Accepted is a text of so many base64url characters; any other is refused under 7, with that length
+// where its own is another, else with the offset of its first bad character.
 pub fn check_digest_text(text: &[u8]) -> Outcome
     ensures { λ r. ⌜ r ≡ digestTextAnswer (now (text .entry)) ⌝ }
 {
-    if text.len() != 32 {
-        return Outcome::Refused(refuse(refusal::BAD_DIGEST_TEXT, 32));
+    if text.len() != DIGEST_LENGTH {
+        return Outcome::Refused(refuse(refusal::BAD_DIGEST_TEXT, DIGEST_LENGTH as u64));
     }
     let at = first_outside_base64url(text);
     if at < text.len() {

@@ -3,6 +3,7 @@
 mod base64;
 mod residues;
 
+pub use base64::DIGEST_LENGTH;
 pub use base64::check_digest_text;
 pub use base64::first_outside_base64url;
 pub use residues::first_foreign;

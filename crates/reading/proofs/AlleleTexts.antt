@@ -9,7 +9,7 @@ use lib.ListN.{length, replicate}
 use Rattle.stretch.specs.Part.{part}
 use Rattle.stretch.proofs.Interval.{length-part}
 use Rattle.refusal.specs.Limits.{sequenceLimit}
-use Rattle.letters.specs.Letters.{letter, residue}
+use Rattle.letters.specs.Letters.{letter, residue, digestLength}
 use Rattle.text.specs.Layout.{beforeLocation, beforeSequence, behindSequence, alleleText}
 use Rattle.words.specs.declared.Walk.{Walk}
 use Rattle.words.specs.Vocabulary.{Word, Digest, Residues}
@@ -46,7 +46,7 @@ open-state : Open FromState
 open-state = open-then (Word beforeSequence) (λ _. FromSequence) beforeSequence refl open-sequence
 
 open-location : Open FromLocation
-open-location = open-then Digest (λ _. FromState) (replicate 32 0x41) some-digest open-state
+open-location = open-then Digest (λ _. FromState) (replicate digestLength 0x41) some-digest open-state
 
 apart-sequence : Apart (Residues sequenceLimit) (λ _. FromClose)
 unfolding residue letter
@@ -115,13 +115,13 @@ module _ {text : List ℕ} {location middle sequence behind close : Walk}
         laid = reach-all at-close e h;
       } in
       let first : location .at ≡ length beforeLocation = onward-length o₁ (o₁ .goes refl e₁ .word) in
-      let second : sequence .at ≡ length beforeLocation + 32 + length beforeSequence
+      let second : sequence .at ≡ length beforeLocation + digestLength + length beforeSequence
       = omega (arith, first, onward-length {w = part text (location .at) (middle .at)} o₂ refl, d .long, onward-length o₃ (o₃ .goes e₂ e₃ .word)) in
       let long : behind .at - sequence .at ≡ length (a .sequence) = sym (length-part text (sequence .at) (behind .at) (o₄ .forth) (o₄ .within)) in
       accepts-parts a (location .at) (sequence .at) (behind .at - sequence .at) first second long
     where
       accepts-parts : (a : AlleleText text) (l s n : ℕ)
-          → l ≡ length beforeLocation → s ≡ length beforeLocation + 32 + length beforeSequence → n ≡ length (a .sequence)
+          → l ≡ length beforeLocation → s ≡ length beforeLocation + digestLength + length beforeSequence → n ≡ length (a .sequence)
           → ReadsAllele text (Accepted (record { location = l; sequence = s; length = n }))
       accepts-parts a l s n p q r = rw (p, q, r) (accepts-allele a)
 

@@ -8,6 +8,7 @@ use mathlib.Core.List.{List, [], _++_, append-cancel-left}
 use lib.ListN.{length, replicate}
 use Rattle.stretch.specs.Part.{part}
 use Rattle.stretch.proofs.Join.{append-same}
+use Rattle.letters.specs.Letters.{digestLength}
 use Rattle.refusal.specs.Limits.{referenceLimit}
 use Rattle.decimals.specs.Decimal.{decimal}
 use Rattle.text.specs.Layout.{beforeEnd, beforeStart, beforeDigest, behindDigest, locationText}
@@ -48,7 +49,7 @@ open-close : Open FromClose
 open-close = open-then (Word behindDigest) (λ _. Done) behindDigest refl open-done
 
 open-digest : Open FromDigest
-open-digest = open-then Digest (λ _. FromClose) (replicate 32 0x41) some-digest open-close
+open-digest = open-then Digest (λ _. FromClose) (replicate digestLength 0x41) some-digest open-close
 
 open-type : Open FromType
 open-type = open-then (Word beforeDigest) (λ _. FromDigest) beforeDigest refl open-digest

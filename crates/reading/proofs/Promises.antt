@@ -7,6 +7,7 @@ use lib.ListN.{length, length-append}
 use Rattle.stretch.specs.Part.{part}
 use Rattle.refusal.specs.Limits.{referenceLimit, sequenceLimit}
 use Rattle.refusal.specs.declared.Refusal.{Refusal}
+use Rattle.letters.specs.Letters.{digestLength}
 use Rattle.decimals.specs.Decimal.{decimal}
 use Rattle.text.specs.Layout.{beforeEnd, beforeStart, beforeDigest, behindDigest, locationText, beforeLocation, beforeSequence, behindSequence, alleleText}
 use Rattle.words.specs.Vocabulary.{Digest, Residues}
@@ -40,7 +41,7 @@ reads-allele-once text _ _ (accepts-allele a) (accepts-allele b) =
     ap
     (λ (s : List ℕ). AlleleAccepted (record {
       location = length beforeLocation;
-      sequence = length beforeLocation + 32 + length beforeSequence;
+      sequence = length beforeLocation + digestLength + length beforeSequence;
       length = length s;
     }))
     (allele-sequence text a b)
@@ -90,7 +91,7 @@ module _ (location sequence : List ℕ) (d : Digest location) (l : Residues sequ
   pub reads-allele-back : (answer : AlleleRead) → ReadsAllele (alleleText location sequence) answer
       → answer ≡ AlleleAccepted (record {
         location = length beforeLocation;
-        sequence = length beforeLocation + 32 + length beforeSequence;
+        sequence = length beforeLocation + digestLength + length beforeSequence;
         length = length sequence;
       })
   unfolding written-allele
@@ -109,11 +110,11 @@ pub record LocationSays (text : List ℕ) (p : LocationParts) : Type 0 where
   pub is : LocationText text
   pub start : p .start ≡ is .start
   pub end : p .end ≡ is .end
-  pub digest : Lies text (p .digest) 32 (is .digest)
+  pub digest : Lies text (p .digest) digestLength (is .digest)
 
 pub record AlleleSays (text : List ℕ) (p : AlleleParts) : Type 0 where
   pub is : AlleleText text
-  pub location : Lies text (p .location) 32 (is .location)
+  pub location : Lies text (p .location) digestLength (is .location)
   pub sequence : Lies text (p .sequence) (p .length) (is .sequence)
 
 regroup : (b c d e f x : List ℕ) → b ++ (c ++ (d ++ (e ++ f))) ++ x ≡ b ++ (c ++ (d ++ (e ++ (f ++ x))))
@@ -129,7 +130,7 @@ reads-location-says text p (accepts a) =
       is = a;
       start = refl;
       end = refl;
-      digest = lies-between text front (a .digest) behindDigest _ 32 whole (simp length-append (omega arith)) (a .digests .long);
+      digest = lies-between text front (a .digest) behindDigest _ digestLength whole (simp length-append (omega arith)) (a .digests .long);
     }
 
 pub reads-allele-says : (text : List ℕ) (p : AlleleParts) → ReadsAllele text (AlleleAccepted p) → AlleleSays text p
@@ -140,7 +141,7 @@ reads-allele-says text p (accepts-allele a) =
     = a .laid ∙ ap (λ (l : List ℕ). beforeLocation ++ l) (sym (append-assoc (a .location) beforeSequence (a .sequence ++ behindSequence))) in
     record {
       is = a;
-      location = lies-between text beforeLocation (a .location) (beforeSequence ++ (a .sequence ++ behindSequence)) _ 32 (a .laid) refl (a .digests .long);
+      location = lies-between text beforeLocation (a .location) (beforeSequence ++ (a .sequence ++ behindSequence)) _ digestLength (a .laid) refl (a .digests .long);
       sequence = lies-between text front (a .sequence) behindSequence _ _ whole (simp length-append (omega (arith, a .digests .long))) refl;
     }
 

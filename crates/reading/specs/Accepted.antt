@@ -3,6 +3,7 @@ use Prim.Native.Nat.{ℕ, _+_, _≤_}
 use mathlib.Core.Path.{_≡_}
 use mathlib.Core.List.{List, []}
 use lib.ListN.{length}
+use Rattle.letters.specs.Letters.{digestLength}
 use Rattle.refusal.specs.Limits.{referenceLimit, sequenceLimit}
 use Rattle.decimals.specs.Decimal.{decimal}
 use Rattle.text.specs.Layout.{beforeEnd, beforeStart, beforeDigest, locationText, beforeLocation, beforeSequence, alleleText}
@@ -46,7 +47,7 @@ pub data ReadsAllele (text : List ℕ) : AlleleRead → Type 0 where
   accepts-allele : (a : AlleleText text)
       → ReadsAllele text (AlleleAccepted (record {
         location = length beforeLocation;
-        sequence = length beforeLocation + 32 + length beforeSequence;
+        sequence = length beforeLocation + digestLength + length beforeSequence;
         length = length (a .sequence);
       }))
   refuses-allele : (i : ℕ) → Refuses AlleleText text i → ReadsAllele text (AlleleRefused (record { number = 8; value = i }))

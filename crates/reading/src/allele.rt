@@ -2,13 +2,13 @@
 use super::AlleleParts;
 use super::AlleleRead;
 use super::part::part_of;
+use letters::DIGEST_LENGTH;
 use refusal::SEQUENCE_LIMIT;
 use refusal::TEXT_NOT_ACCEPTED;
 use refusal::refuse;
 use text::BEFORE_LOCATION;
 use text::BEFORE_SEQUENCE;
 use text::BEHIND_SEQUENCE;
-use words::DIGEST_LENGTH;
 use words::Walk;
 use words::past_digest;
 use words::past_residues;

@@ -13,7 +13,7 @@ pub use allele::sequence_of;
 pub use location::digest_of;
 pub use location::read_location;
 
-// What a location text says: start, end, and where its sequence digest of 32 characters begins.
+// What a location text says: start, end, and where its sequence digest begins.
 pub struct LocationParts {
     pub start: u64,
     pub end: u64,
@@ -25,7 +25,7 @@ pub enum LocationRead {
     Refused(refusal::Refusal),
 }
 
-// Where the parts of an allele text lie: the location's digest of 32 characters, and the sequence.
+// Where the parts of an allele text lie: the location's digest, and the sequence.
 pub struct AlleleParts {
     pub location: u64,
     pub sequence: u64,

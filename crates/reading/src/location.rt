@@ -2,6 +2,7 @@
 use super::LocationParts;
 use super::LocationRead;
 use super::part::part_of;
+use letters::DIGEST_LENGTH;
 use refusal::REFERENCE_LIMIT;
 use refusal::TEXT_NOT_ACCEPTED;
 use refusal::refuse;
@@ -9,7 +10,6 @@ use text::BEFORE_DIGEST;
 use text::BEFORE_END;
 use text::BEFORE_START;
 use text::BEHIND_DIGEST;
-use words::DIGEST_LENGTH;
 use words::Walk;
 use words::past_decimal;
 use words::past_digest;

@@ -1,6 +1,7 @@
 -- Document 01, "Texts and identifiers": the location text and the allele text, for writing and for reading.
-use Prim.Native.Nat.{ℕ}
+use Prim.Native.Nat.{ℕ, _+_}
 use mathlib.Core.List.{List, _++_}
+use lib.ListN.{length}
 use Rattle.stretch.specs.Ascii.{ascii}
 use Rattle.decimals.specs.Decimal.{decimal}
 
@@ -22,6 +23,10 @@ unfoldable pub locationText : ℕ → ℕ → List ℕ → List ℕ
 locationText start end digest =
     beforeEnd ++ (decimal end ++ (beforeStart ++ (decimal start ++ (beforeDigest ++ (digest ++ behindDigest)))))
 
+-- the bytes of its words
+abbrev pub locationWords : ℕ
+locationWords = length beforeEnd + length beforeStart + length beforeDigest + length behindDigest
+
 -- what stands before the location's digest, between it and the replacement, behind the replacement
 abbrev pub beforeLocation : List ℕ
 beforeLocation = ascii "{\"location\":\""
@@ -36,3 +41,7 @@ behindSequence = ascii "\",\"type\":\"SequenceState\"},\"type\":\"Allele\"}"
 unfoldable pub alleleText : List ℕ → List ℕ → List ℕ
 alleleText location replacement =
     beforeLocation ++ (location ++ (beforeSequence ++ (replacement ++ behindSequence)))
+
+-- the bytes of its words
+abbrev pub alleleWords : ℕ
+alleleWords = length beforeLocation + length beforeSequence + length behindSequence

@@ -7,7 +7,7 @@ ghost use Prim.Native.Nat.{_+_, _≤_};
 ghost use lib.ListN.{length};
 ghost use Rattle.stretch.specs.Over.{Wrote};
 ghost use Rattle.decimals.specs.Decimal.{decimal};
-ghost use Rattle.text.specs.Layout.{locationText, alleleText};
+ghost use Rattle.text.specs.Layout.{locationText, locationWords, alleleText, alleleWords};
 
 pub const BEFORE_END: [u8; 19] = *b"{\"interval\":{\"end\":";
 
@@ -23,9 +23,19 @@ pub const BEFORE_SEQUENCE: [u8; 23] = *b"\",\"state\":{\"sequence\":\"";
 
 pub const BEHIND_SEQUENCE: [u8; 42] = *b"\",\"type\":\"SequenceState\"},\"type\":\"Allele\"}";
 
+// The bytes of the words of a location text, and of an allele text.
+pub const LOCATION_WORDS: usize = BEFORE_END.len()
+    + BEFORE_START.len()
+    + BEFORE_DIGEST.len()
+    + BEHIND_DIGEST.len();
+
+pub const ALLELE_WORDS: usize = BEFORE_LOCATION.len()
+    + BEFORE_SEQUENCE.len()
+    + BEHIND_SEQUENCE.len();
+
 // Lays the location text over the front of `out`, and answers how long it is.
 pub fn write_location(out: &mut [u8], start: u64, end: u64, digest: &[u8]) -> usize
-    requires { ⌜ length (decimal end) + (length (decimal start) + (length (now digest) + 97)) ≤ length (now out) ⌝ }
+    requires { ⌜ length (decimal end) + (length (decimal start) + (length (now digest) + locationWords)) ≤ length (now out) ⌝ }
     ensures { λ r. ⌜ Wrote (now (out .entry)) 0 (locationText start end (now (digest .entry))) (now (out .exit)) r ⌝ }
 {
     let a = put(out, 0, &BEFORE_END);
@@ -38,7 +48,7 @@ pub fn write_location(out: &mut [u8], start: u64, end: u64, digest: &[u8]) -> us
 // Lays the allele text of a replacement that comes in three stretches over the front of `out`, and
 // answers how long it is.
 pub fn write_allele(out: &mut [u8], location: &[u8], a: &[u8], b: &[u8], c: &[u8]) -> usize
-    requires { ⌜ length (now location) + (length (now a) + (length (now b) + (length (now c) + 78))) ≤ length (now out) ⌝ }
+    requires { ⌜ length (now location) + (length (now a) + (length (now b) + (length (now c) + alleleWords))) ≤ length (now out) ⌝ }
     ensures { λ r. ⌜ Wrote (now (out .entry)) 0 (alleleText (now (location .entry)) (now (a .entry) ++ (now (b .entry) ++ now (c .entry)))) (now (out .exit)) r ⌝ }
 {
     let second = put_three(out, 0, &BEFORE_LOCATION, location, &BEFORE_SEQUENCE);

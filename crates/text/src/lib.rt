@@ -3,6 +3,7 @@
 // specs/Layout.antt has the two texts.
 mod layout;
 
+pub use layout::ALLELE_WORDS;
 pub use layout::BEFORE_DIGEST;
 pub use layout::BEFORE_END;
 pub use layout::BEFORE_LOCATION;
@@ -10,5 +11,6 @@ pub use layout::BEFORE_SEQUENCE;
 pub use layout::BEFORE_START;
 pub use layout::BEHIND_DIGEST;
 pub use layout::BEHIND_SEQUENCE;
+pub use layout::LOCATION_WORDS;
 pub use layout::write_allele;
 pub use layout::write_location;

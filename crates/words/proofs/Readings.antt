@@ -13,9 +13,11 @@ use Rattle.stretch.specs.Common.{lcp}
 use Rattle.stretch.proofs.Cases.{by-cases}
 use Rattle.stretch.proofs.Common.{lcp-le-left, lcp-le-right, lcp-take, lcp-past}
 use Rattle.stretch.specs.Class.{every, firstOutside}
-use Rattle.letters.specs.Letters.{residue, base64url, foreign}
+use Rattle.letters.specs.Letters.{residue, base64url, foreign, every, firstOutside, digestLength}
 use Rattle.stretch.proofs.Class.{every-append, every-front}
 use Rattle.stretch.proofs.Outside.{firstOutside-le, firstOutside-take, firstOutside-max}
+use Rattle.letters.proofs.Class.{every-append, every-front}
+use Rattle.letters.proofs.Outside.{firstOutside-le, firstOutside-take, firstOutside-max}
 use Rattle.words.specs.Prefix.{Begins}
 use Rattle.words.specs.Vocabulary.{Word, Digest, Residues}
 use Rattle.words.specs.Walk.{Goes, Stops}
@@ -75,25 +77,25 @@ module _ (p : ℕ → Bool) (most : ℕ) (s : List ℕ) (n : ℕ) (first : n ≡
       rw first (firstOutside-max p (take most s) j (omega (arith, length-take most s))
       (rw (take-take j most s g) (every-front p (take j s) rest e)))
 
--- characters that make up 32
+-- characters that make up a digest text
 every-filled : (k : ℕ) → every base64url (replicate k 0x41) ≡ true
 unfolding every base64url
 every-filled zero = refl
 every-filled (suc k) = every-filled k
 
-module _ (s : List ℕ) (n : ℕ) (first : n ≡ firstOutside base64url (take 32 s)) where
+module _ (s : List ℕ) (n : ℕ) (first : n ≡ firstOutside base64url (take digestLength s)) where
   within : n ≤ length s
-  within = first-within base64url 32 s n first
+  within = first-within base64url digestLength s n first
 
   characters : every base64url (take n s) ≡ true
-  characters = first-every base64url 32 s n first
+  characters = first-every base64url digestLength s n first
 
   begins-digest : (j : ℕ) → j ≤ length s → Begins Digest (take j s) → j ≤ n
   begins-digest j h b =
-      let long : length (take j s) + length (b .rest) ≡ 32 = rw length-append at (b .whole .long) in
-      first-max base64url 32 s n first j (b .rest) h (omega (arith, length-take-le j s h)) (b .whole .characters)
+      let long : length (take j s) + length (b .rest) ≡ digestLength = rw length-append at (b .whole .long) in
+      first-max base64url digestLength s n first j (b .rest) h (omega (arith, length-take-le j s h)) (b .whole .characters)
 
-  pub goes-digest : n ≡ 32 → Goes Digest s n
+  pub goes-digest : n ≡ digestLength → Goes Digest s n
   goes-digest e =
       record {
         within = within;
@@ -101,21 +103,21 @@ module _ (s : List ℕ) (n : ℕ) (first : n ≡ firstOutside base64url (take 32
         furthest = λ j h g b. omega (arith, begins-digest j g b);
       }
 
-  pub stops-digest : (n ≡ 32 → ⊥) → Stops Digest s n
+  pub stops-digest : (n ≡ digestLength → ⊥) → Stops Digest s n
   stops-digest f =
       record {
         longest = record {
           within = within;
           begins = record {
-            rest = replicate (32 - n) 0x41;
+            rest = replicate (digestLength - n) 0x41;
             whole = record {
-              long = rw (length-append, length-replicate, length-take-le n s within) (omega (arith, first-few base64url 32 s n first));
-              characters = rw (every-append, characters) (every-filled (32 - n));
+              long = rw (length-append, length-replicate, length-take-le n s within) (omega (arith, first-few base64url digestLength s n first));
+              characters = rw (every-append, characters) (every-filled (digestLength - n));
             };
           };
           furthest = λ j h g b. omega (arith, begins-digest j g b);
         };
-        never = λ j h d. f (omega (arith, d .long, length-take-le j s (omega (arith, within)), first-few base64url 32 s n first));
+        never = λ j h d. f (omega (arith, d .long, length-take-le j s (omega (arith, within)), first-few base64url digestLength s n first));
       }
 
 pub goes-residues : (most : ℕ) (s : List ℕ) (n : ℕ) → n ≡ foreign (take most s) → Goes (Residues most) s n

@@ -7,8 +7,9 @@ use mathlib.Core.List.{List, [], _∷_, _++_}
 use lib.ListN.{length, getD, replicate, length-append, List·getD-append}
 use lib.Seq.{append-snoc, getD-at}
 use Rattle.stretch.specs.Class.{every}
-use Rattle.letters.specs.Letters.{residue, base64url}
+use Rattle.letters.specs.Letters.{residue, base64url, every, digestLength}
 use Rattle.stretch.proofs.Class.{every-at}
+use Rattle.letters.proofs.Class.{every-at}
 use Rattle.decimals.specs.Decimal.{decimal}
 use Rattle.decimals.proofs.Digits.{decimal-digits}
 use Rattle.words.specs.Prefix.{Begins}
@@ -18,7 +19,7 @@ use Rattle.words.proofs.Following.{Then, Apart}
 pub decimal-to : {most : ℕ} (n : ℕ) → n ≤ most → DecimalTo most (decimal n)
 decimal-to n h = record { number = n; large = omega arith; small = h; digits = refl }
 
-pub some-digest : Digest (replicate 32 0x41)
+pub some-digest : Digest (replicate digestLength 0x41)
 unfolding every base64url
 some-digest = record { long = refl; characters = refl }
 
@@ -41,7 +42,7 @@ pub apart-word : (word : List ℕ) (Next : List ℕ → List ℕ → Type 0) →
 apart-word word = apart-length (Word word) (length word) (λ w e. ap length e)
 
 pub apart-digest : (Next : List ℕ → List ℕ → Type 0) → Apart Digest Next
-apart-digest = apart-length Digest 32 (λ w d. d .long)
+apart-digest = apart-length Digest digestLength (λ w d. d .long)
 
 -- what begins with a word begins with its first byte
 module _ (word : List ℕ) (nonempty : 0 < length word) (N : List ℕ → List ℕ → Type 0) where

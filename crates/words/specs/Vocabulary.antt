@@ -5,16 +5,16 @@ use mathlib.Core.Bool.{true}
 use mathlib.Core.List.{List}
 use lib.ListN.{length}
 use Rattle.stretch.specs.Class.{every}
-use Rattle.letters.specs.Letters.{residue, base64url}
+use Rattle.letters.specs.Letters.{residue, base64url, every, digestLength}
 use Rattle.decimals.specs.Decimal.{decimal}
 
 -- this one alone
 abbrev pub Word : List ℕ → List ℕ → Type 0
 Word w s = s ≡ w
 
--- 32 base64url characters
+-- a digest text: so many base64url characters
 pub record Digest (s : List ℕ) : Type 0 where
-  pub long : length s ≡ 32
+  pub long : length s ≡ digestLength
   pub characters : every base64url s ≡ true
 
 -- at most so many residues

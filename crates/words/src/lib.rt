@@ -6,7 +6,6 @@
 mod range;
 mod words;
 
-pub use words::DIGEST_LENGTH;
 pub use words::past_decimal;
 pub use words::past_digest;
 pub use words::past_residues;

@@ -4,6 +4,7 @@ use super::Counted;
 use super::Walk;
 use super::range::longest_reaching;
 use decimals::leading_digits;
+use letters::DIGEST_LENGTH;
 use letters::first_foreign;
 use letters::first_outside_base64url;
 use stretch::common_prefix;
@@ -12,8 +13,6 @@ ghost use Prim.Native.Nat.{_≤_};
 ghost use lib.ListN.{length};
 ghost use Rattle.words.specs.Vocabulary.{Word, Digest, Residues};
 ghost use Rattle.words.specs.Walk.{Onward, Counts};
-
-pub const DIGEST_LENGTH: usize = 32;
 
 // Past one word.
 pub fn past_word(text: &[u8], a: Walk, word: &[u8]) -> Walk
@@ -31,7 +30,7 @@ pub fn past_word(text: &[u8], a: Walk, word: &[u8]) -> Walk
     }
 }
 
-// Past 32 base64url characters.
+// Past the characters of a digest text.
 pub fn past_digest(text: &[u8], a: Walk) -> Walk
     requires { ⌜ a .at ≤ length (now text) ⌝ }
     ensures { λ r. ⌜ Onward Digest (now (text .entry)) a r ⌝ }

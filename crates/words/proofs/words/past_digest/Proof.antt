@@ -1,8 +1,9 @@
--- A digest goes up to the first character outside the alphabet, among 32.
+-- A digest goes up to the first character outside the alphabet, among those of a digest text.
 use native.Mathlib.Omega.{arith}
 use lib.Dec.{eqb}
 use borrow.Author.Needs.{needs}
 use borrow.Author.Tests.{not-true, not-false, eqb-true, eqb-false}
+use Rattle.letters.specs.Letters.{digestLength}
 use Rattle.words.specs.Vocabulary.{Digest}
 use Rattle.words.proofs.Onwards.{onward-stopped, onward-step}
 use Rattle.words.proofs.Readings.{lent-most, goes-digest, stops-digest}
@@ -39,7 +40,7 @@ returns-2 c =
     let s = c .before .before .before .before .before .before in
     let n = c .first-outside-base64url .result in
     let first = rw (c .before .before .smaller .ensures, lent-most) at (c .first-outside-base64url .ensures) in
-    onward-step Digest _ (s .args .a) (s .pre) (not-false _ (c .before .before .before .if1 .left)) n (eqb n 32)
+    onward-step Digest _ (s .args .a) (s .pre) (not-false _ (c .before .before .before .if1 .left)) n (eqb n digestLength)
     (λ e. goes-digest _ n first (eqb-true _ _ e))
     (λ e. stops-digest _ n first (eqb-false _ _ e))
 
