@@ -70,7 +70,7 @@ fn laid_identifier_line(location: &[u8], replacement: &[u8], laid: &[u8]) {
 
 // Without the sequence, an allele text is laid out from the location's digest and the replacement.
 fn laid_lines(location: &[u8], replacement: &[u8])
-    requires { ⌜ length (now location) + length (now replacement) + 78 ≤ 160 ⌝ }
+    requires { ⌜ length (now location) + length (now replacement) + alleleWords ≤ 160 ⌝ }
 {
     let mut space = [0u8; ROOM];
     let count = text::write_allele(&mut space, location, replacement, b"", b"");

@@ -7,7 +7,7 @@ use Rattle.refusal.specs.declared.Outcome.the-variants.{Accepted, Refused}
 use Rattle.refusal.specs.declared.Refusal.{Refusal}
 use Rattle.refusal.specs.Verdict.{accepted, refused, verdict}
 use Rattle.refusal.proofs.Verdict.{verdict-later, outcome-accepted, outcome-refused}
-use Rattle.letters.specs.Letters.{digestTextGrounds}
+use Rattle.letters.specs.Letters.{digestLength, digestTextGrounds}
 use Rattle.letters.proofs.DigestText.{digest-long, digest-all}
 use Rattle.words.specs.Vocabulary.{Digest}
 use Rattle.locations.specs.Calls.{intervalGrounds, locationGrounds, locationAnswer}
@@ -21,7 +21,7 @@ module _ (n start end : ℕ) (digest : List ℕ) where
   unfolding locationAnswer
   location-accepted e = outcome-accepted _ e
 
-  pub location-digest : Accepted ≡ locationAnswer n start end digest → length digest ≡ 32
+  pub location-digest : Accepted ≡ locationAnswer n start end digest → length digest ≡ digestLength
   unfolding locationGrounds
   location-digest e = digest-long digest (verdict-later (intervalGrounds n start end) (digestTextGrounds digest) (location-accepted e))
 

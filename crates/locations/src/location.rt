@@ -2,6 +2,7 @@
 use super::hash::location_hash;
 use decimals::decimal_length;
 use encoding::place_identifier;
+use letters::DIGEST_LENGTH;
 use letters::check_digest_text;
 use refusal::END_ABOVE_REFERENCE;
 use refusal::OUTPUT_TOO_SHORT;
@@ -12,22 +13,23 @@ use refusal::START_ABOVE_END;
 use refusal::Written;
 use refusal::refuse;
 use refusal::sum_exceeds;
+use text::LOCATION_WORDS;
 use text::write_location;
 ghost use mathlib.Core.Path.{_≡_};
 ghost use mathlib.Core.List.{[]};
 ghost use lib.ListN.{length};
 ghost use Rattle.refusal.specs.Writes.{Says};
+ghost use Rattle.letters.specs.Letters.{digestLength};
 ghost use Rattle.text.specs.Layout.{locationText};
 ghost use Rattle.locations.specs.Identifier.{locationIdentifier};
 ghost use Rattle.locations.specs.Calls.{locationAnswer, SaysLocation, IdentifiesLocation};
 
 const LOCATION_PREFIX: [u8; 10] = *b"ga4gh:VSL.";
 
-// The prefix and 32 characters.
-const IDENTIFIER_LENGTH: u64 = 42;
+const IDENTIFIER_LENGTH: u64 = (LOCATION_PREFIX.len() + DIGEST_LENGTH) as u64;
 
 // The bytes of a location text around its numbers: its words, and the sequence's digest.
-const AROUND_NUMBERS: usize = 129;
+const AROUND_NUMBERS: usize = LOCATION_WORDS + DIGEST_LENGTH;
 
 // The tests 1, 2, 3, 7.
 fn check_location(residues: u64, start: u64, end: u64, digest: &[u8]) -> Outcome
@@ -47,7 +49,7 @@ fn check_location(residues: u64, start: u64, end: u64, digest: &[u8]) -> Outcome
 
 // 6, and the text.
 fn write_text(start: u64, end: u64, digest: &[u8], out: &mut [u8], place: u64) -> Written
-    requires { ⌜ length (now digest) ≡ 32 ⌝ }
+    requires { ⌜ length (now digest) ≡ digestLength ⌝ }
     ensures { λ r. ⌜ Says [] (locationText start end (now (digest .entry))) (now (out .entry)) place r (now (out .exit)) ⌝ }
 {
     let length = (decimal_length(start) + decimal_length(end) + AROUND_NUMBERS) as u64;
@@ -61,7 +63,7 @@ fn write_text(start: u64, end: u64, digest: &[u8], out: &mut [u8], place: u64) -
 
 // 6, and the identifier.
 fn write_identifier(start: u64, end: u64, digest: &[u8], out: &mut [u8], place: u64) -> Written
-    requires { ⌜ length (now digest) ≡ 32 ⌝ }
+    requires { ⌜ length (now digest) ≡ digestLength ⌝ }
     ensures { λ r. ⌜ Says [] (locationIdentifier start end (now (digest .entry))) (now (out .entry)) place r (now (out .exit)) ⌝ }
 {
     if sum_exceeds(place, IDENTIFIER_LENGTH, out.len() as u64) {

@@ -1,4 +1,4 @@
--- All 32 bytes are the text's.
+-- All bytes are the text's.
 use native.Mathlib.Omega.{arith}
 use mathlib.Core.Path.{_≡_}
 use lib.ListN.{length}

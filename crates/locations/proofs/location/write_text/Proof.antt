@@ -9,7 +9,7 @@ use Rattle.refusal.proofs.Says.{says-short, says-tail}
 use Rattle.decimals.specs.Decimal.{decimal}
 use Rattle.text.specs.Layout.{locationText}
 use Rattle.decimals.proofs.Digits.{decimal-within}
-use Rattle.locations.proofs.Lengths.{location-long}
+use Rattle.locations.proofs.Lengths.{aroundNumbers, location-long}
 use Rattle.locations.proofs.location.write_text.Statement.{statement}
 use Rattle.locations.proofs.location.write_text.Tie as tie
 
@@ -55,7 +55,7 @@ write-location-requires : tie.Need-write-location-requires
 write-location-requires c κs =
     let l = c .before .before .before in
     let s = l .before .before .before .before in
-    let long : length (decimal (s .args .start)) + length (decimal (s .args .end)) + 129 ≤ length (take (length (s .args .out .now) - s .args .place) (drop (s .args .place) (s .args .out .now)))
+    let long : length (decimal (s .args .start)) + length (decimal (s .args .end)) + aroundNumbers ≤ length (take (length (s .args .out .now) - s .args .place) (drop (s .args .place) (s .args .out .now)))
     = rw (← l .before .decimal-length .ensures, ← l .decimal-length2 .ensures) (tail-room (s .args .out .now) (s .args .place) _ (sym (c .before .before .sum-exceeds .ensures) ∙ c .before .if1 .left)) in
     omega (arith, long, s .pre)
 
@@ -68,7 +68,7 @@ returns-2 c =
     let l = b .before .before in
     let s = l .before .before .before .before in
     let t = sym (b .before .sum-exceeds .ensures) ∙ b .if1 .left in
-    let long : l .before .decimal-length .result + l .decimal-length2 .result + 129 ≡ length (locationText (s .args .start) (s .args .end) (s .args .digest .now))
+    let long : l .before .decimal-length .result + l .decimal-length2 .result + aroundNumbers ≡ length (locationText (s .args .start) (s .args .end) (s .args .digest .now))
     = rw (l .before .decimal-length .ensures, l .decimal-length2 .ensures) (location-long (s .args .start) (s .args .end) _ (s .pre)) in
     says-tail _ _ _ _ long _ t (c .before .before .write-location .ensures .laid)
 
