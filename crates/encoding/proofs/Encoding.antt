@@ -69,10 +69,12 @@ pub length-sha512t24u : (m : List ℕ) → length (sha512t24u m) ≡ digestLengt
 unfolding sha512t24u
 length-sha512t24u m = length-digestText (sha512 m) (omega (arith, length-sha512 m))
 
-pub length-identifier : (prefix d : List ℕ) → 24 ≤ length d → length (prefix ++ digestText d) ≡ length prefix + digestLength
+pub length-identifier : (prefix d : List ℕ) → 24 ≤ length d
+    → length (prefix ++ digestText d) ≡ length prefix + digestLength
 length-identifier prefix d h = rw (length-append prefix (digestText d), length-digestText d h)
 
 -- an identifier written into a tail that was lent and comes back
-pub identifier-laid : (out prefix d : List ℕ) (place : ℕ) → place + (length prefix + digestLength) ≤ length out → 24 ≤ length d
+pub identifier-laid : (out prefix d : List ℕ) (place : ℕ)
+    → place + (length prefix + digestLength) ≤ length out → 24 ≤ length d
     → take place out ++ (over (take (length out - place) (drop place out)) 0 (prefix ++ digestText d) ++ drop (length out - place) (drop place out)) ≡ over out place (prefix ++ digestText d)
 identifier-laid out prefix d place h n = over-tail-front out place (prefix ++ digestText d) (omega (arith, length-identifier prefix d n))

@@ -10,14 +10,14 @@ use borrow.Author.Tests.{eqb-true, ltb-false, not-false}
 use Rattle.refusal.specs.Verdict.{accepted, verdict}
 use Rattle.refusal.proofs.Verdict.{none-holds}
 use Rattle.stretch.specs.Class.{every, firstOutside}
-use Rattle.letters.specs.Letters.{base64url, digestTextGrounds, every, firstOutside, digestLength}
+use Rattle.letters.specs.Letters.{base64url, digestTextGrounds, digestLength}
 use Rattle.stretch.proofs.Outside.{firstOutside-le, firstOutside-all}
-use Rattle.letters.proofs.Outside.{firstOutside-le, firstOutside-all}
 
 module _ (d : List ℕ) (v : verdict (digestTextGrounds d) ≡ accepted) where
   pub digest-long : length d ≡ digestLength
   unfolding digestTextGrounds
-  digest-long = eqb-true (length d) digestLength (not-false (eqb (length d) digestLength) (none-holds (digestTextGrounds d) v 0))
+  digest-long =
+      eqb-true (length d) digestLength (not-false (eqb (length d) digestLength) (none-holds (digestTextGrounds d) v 0))
 
   pub digest-all : every base64url d ≡ true
   unfolding digestTextGrounds

@@ -21,7 +21,8 @@ pub location-room : (start end n : ℕ) → start < 2 ^ 64 → end < 2 ^ 64 → 
     → length (decimal end) + (length (decimal start) + (n + locationWords)) ≤ locationWords + digestLength + 2 * 20
 location-room start end n h g e = omega (arith, decimal-within start h, decimal-within end g)
 
-pub length-location-identifier : (start end : ℕ) (digest : List ℕ) → length (locationIdentifier start end digest) ≡ locationIdentifierLength
+pub length-location-identifier : (start end : ℕ) (digest : List ℕ)
+    → length (locationIdentifier start end digest) ≡ locationIdentifierLength
 unfolding locationIdentifier
 length-location-identifier start end digest = rw (length-sha512t24u (locationText start end digest))
 

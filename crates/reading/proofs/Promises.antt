@@ -130,7 +130,9 @@ reads-location-says text p (accepts a) =
       is = a;
       start = refl;
       end = refl;
-      digest = lies-between text front (a .digest) behindDigest _ digestLength whole (simp length-append (omega arith)) (a .digests .long);
+      digest =
+          lies-between text front (a .digest) behindDigest _ digestLength whole
+          (simp length-append (omega arith)) (a .digests .long);
     }
 
 pub reads-allele-says : (text : List ℕ) (p : AlleleParts) → ReadsAllele text (AlleleAccepted p) → AlleleSays text p
@@ -141,21 +143,37 @@ reads-allele-says text p (accepts-allele a) =
     = a .laid ∙ ap (λ (l : List ℕ). beforeLocation ++ l) (sym (append-assoc (a .location) beforeSequence (a .sequence ++ behindSequence))) in
     record {
       is = a;
-      location = lies-between text beforeLocation (a .location) (beforeSequence ++ (a .sequence ++ behindSequence)) _ digestLength (a .laid) refl (a .digests .long);
+      location =
+          lies-between text beforeLocation (a .location) (beforeSequence ++ (a .sequence ++ behindSequence))
+          _ digestLength (a .laid) refl (a .digests .long);
       sequence = lies-between text front (a .sequence) behindSequence _ _ whole (simp length-append (omega (arith, a .digests .long))) refl;
     }
 
--- a text that is refused says nothing
-pub refused-location : (text : List ℕ) (r : Refusal) → ReadsLocation text (Refused r) → LocationText text → ⊥
-refused-location text _ (refuses i r) = r .other
+-- by the answer that is held
+module _ {text : List ℕ} {answer : LocationRead} (r : ReadsLocation text answer) where
+  pub accepted-location : {p : LocationParts} → answer ≡ Accepted p → LocationSays text p
+  accepted-location {p} e = reads-location-says text p (rw e at r)
 
-pub refused-allele : (text : List ℕ) (r : Refusal) → ReadsAllele text (AlleleRefused r) → AlleleText text → ⊥
-refused-allele text _ (refuses-allele i r) = r .other
+  pub refused-location : {why : Refusal} → answer ≡ Refused why → LocationText text → ⊥
+  refused-location {why} e = other why (rw e at r)
+    where
+      other : (why : Refusal) → ReadsLocation text (Refused why) → LocationText text → ⊥
+      other _ (refuses i q) = q .other
+
+module _ {text : List ℕ} {answer : AlleleRead} (r : ReadsAllele text answer) where
+  pub accepted-allele : {p : AlleleParts} → answer ≡ AlleleAccepted p → AlleleSays text p
+  accepted-allele {p} e = reads-allele-says text p (rw e at r)
+
+  pub refused-allele : {why : Refusal} → answer ≡ AlleleRefused why → AlleleText text → ⊥
+  refused-allele {why} e = other why (rw e at r)
+    where
+      other : (why : Refusal) → ReadsAllele text (AlleleRefused why) → AlleleText text → ⊥
+      other _ (refuses-allele i q) = q .other
 
 -- so a part of the text is handed back where it is accepted, and its empty part where it is not
 module _ {Kind : List ℕ → Type 0} {stretch : (text : List ℕ) → Kind text → List ℕ} {text s : List ℕ} where
-  pub hands-part : {from long : ℕ} (is : Kind text) → Lies text from long (stretch text is) → s ≡ part text from (from + long)
-      → HandsBack Kind stretch text s
+  pub hands-part : {from long : ℕ} (is : Kind text) → Lies text from long (stretch text is)
+      → s ≡ part text from (from + long) → HandsBack Kind stretch text s
   hands-part is l e = rw (e, l .stretch) (hands is)
 
   pub hands-none : (Kind text → ⊥) → s ≡ part text 0 0 → HandsBack Kind stretch text s

@@ -6,14 +6,23 @@ use mathlib.Core.List.{List, _++_, append-assoc}
 use lib.ListN.{length, drop, length-append}
 use Rattle.stretch.proofs.Join.{append-same}
 use Rattle.decimals.specs.Decimal.{decimal}
-use Rattle.text.specs.Layout.{locationText, locationWords, alleleText, alleleWords, beforeLocation, beforeSequence, behindSequence}
+use Rattle.text.specs.Layout.{
+  locationText,
+  locationWords,
+  alleleText,
+  alleleWords,
+  beforeLocation,
+  beforeSequence,
+  behindSequence,
+}
 
 pub allele-pieces : (location x : List ℕ) → (beforeLocation ++ (location ++ beforeSequence)) ++ (x ++ behindSequence) ≡ alleleText location x
 unfolding alleleText
 allele-pieces location x = ap (λ (l : List ℕ). beforeLocation ++ l) (append-assoc location beforeSequence (x ++ behindSequence))
 
 pub length-location : (start end : ℕ) (digest : List ℕ)
-    → length (locationText start end digest) ≡ length (decimal end) + (length (decimal start) + (length digest + locationWords))
+    → length (locationText start end digest)
+    ≡ length (decimal end) + (length (decimal start) + (length digest + locationWords))
 unfolding locationText
 length-location start end digest = simp length-append (omega arith)
 

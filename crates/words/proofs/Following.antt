@@ -194,6 +194,9 @@ module _ (L M : List ℕ → Type 0) (f : (t : List ℕ) → L t → M t) (g : (
         furthest = λ j h l b. r .furthest j h l (record { rest = b .rest; whole = g _ (b .whole) });
       }
 
+  pub refuses-alike : Refuses L s i → Refuses M s i
+  refuses-alike r = record { other = λ t. r .other (g s t); longest = longest-alike (r .longest) }
+
 -- there is one longest prefix
 pub longest-once : (Kind : List ℕ → Type 0) (text : List ℕ) (i j : ℕ) → Longest Kind text i → Longest Kind text j → i ≡ j
 longest-once Kind text i j f g =

@@ -4,5 +4,6 @@ pub mod Ranges
 pub mod Numerals
 pub mod Following
 pub mod Vocabulary
-pub mod Reach
 pub mod Promises
+pub mod Layouts
+pub mod Walked

@@ -37,3 +37,8 @@ module _ (Kind : List ℕ → Type 0) (text : List ℕ) (a : Walk) (inside : a .
   -- of a kind that never stops
   pub onward-goes : a .on ≡ true → (n : ℕ) → Goes Kind (drop (a .at) text) n → Onward Kind text a (record { at = a .at + n; on = true })
   onward-goes on n g = onward-step on n true (λ _. g) (λ e. absurd (let z : _≡_ {A = ℕ} 0 1 = cc in omega arith))
+
+-- a walk that goes on has gone on before
+pub on-before : {Kind : List ℕ → Type 0} {text : List ℕ} {a b : Walk}
+    → Onward Kind text a b → b .on ≡ true → a .on ≡ true
+on-before {a = a} o e = by-cases (a .on) (λ t. t) (λ t. cc (o .stays t))

@@ -13,7 +13,7 @@ use Rattle.words.specs.declared.Walk.{Walk}
 use Rattle.words.specs.Prefix.{Longest}
 use Rattle.words.specs.Walk.{Onward, Counts}
 use Rattle.words.proofs.Following.{longest-once}
-use Rattle.words.proofs.Reach.{on-before}
+use Rattle.words.proofs.Onwards.{on-before}
 
 -- whether it goes on or stops, it goes as far as some word begins
 onward-longest : {Kind : List ℕ → Type 0} {text : List ℕ} {a b : Walk} → Onward Kind text a b → a .on ≡ true → Longest Kind (drop (a .at) text) (b .at - a .at)

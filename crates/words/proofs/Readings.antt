@@ -13,11 +13,9 @@ use Rattle.stretch.specs.Common.{lcp}
 use Rattle.stretch.proofs.Cases.{by-cases}
 use Rattle.stretch.proofs.Common.{lcp-le-left, lcp-le-right, lcp-take, lcp-past}
 use Rattle.stretch.specs.Class.{every, firstOutside}
-use Rattle.letters.specs.Letters.{residue, base64url, foreign, every, firstOutside, digestLength}
+use Rattle.letters.specs.Letters.{residue, base64url, foreign, digestLength}
 use Rattle.stretch.proofs.Class.{every-append, every-front}
 use Rattle.stretch.proofs.Outside.{firstOutside-le, firstOutside-take, firstOutside-max}
-use Rattle.letters.proofs.Class.{every-append, every-front}
-use Rattle.letters.proofs.Outside.{firstOutside-le, firstOutside-take, firstOutside-max}
 use Rattle.words.specs.Prefix.{Begins}
 use Rattle.words.specs.Vocabulary.{Word, Digest, Residues}
 use Rattle.words.specs.Walk.{Goes, Stops}
@@ -93,7 +91,8 @@ module _ (s : List ℕ) (n : ℕ) (first : n ≡ firstOutside base64url (take di
   begins-digest : (j : ℕ) → j ≤ length s → Begins Digest (take j s) → j ≤ n
   begins-digest j h b =
       let long : length (take j s) + length (b .rest) ≡ digestLength = rw length-append at (b .whole .long) in
-      first-max base64url digestLength s n first j (b .rest) h (omega (arith, length-take-le j s h)) (b .whole .characters)
+      first-max base64url digestLength s n first j (b .rest) h
+      (omega (arith, length-take-le j s h)) (b .whole .characters)
 
   pub goes-digest : n ≡ digestLength → Goes Digest s n
   goes-digest e =
@@ -111,13 +110,17 @@ module _ (s : List ℕ) (n : ℕ) (first : n ≡ firstOutside base64url (take di
           begins = record {
             rest = replicate (digestLength - n) 0x41;
             whole = record {
-              long = rw (length-append, length-replicate, length-take-le n s within) (omega (arith, first-few base64url digestLength s n first));
+              long =
+                  rw (length-append, length-replicate, length-take-le n s within)
+                  (omega (arith, first-few base64url digestLength s n first));
               characters = rw (every-append, characters) (every-filled (digestLength - n));
             };
           };
           furthest = λ j h g b. omega (arith, begins-digest j g b);
         };
-        never = λ j h d. f (omega (arith, d .long, length-take-le j s (omega (arith, within)), first-few base64url digestLength s n first));
+        never = λ j h d.
+            let few = first-few base64url digestLength s n first in
+            f (omega (arith, d .long, length-take-le j s (omega (arith, within)), few));
       }
 
 pub goes-residues : (most : ℕ) (s : List ℕ) (n : ℕ) → n ≡ foreign (take most s) → Goes (Residues most) s n

@@ -6,18 +6,17 @@ use mathlib.Core.Bool.{true, false}
 use mathlib.Core.List.{List, [], _∷_, _++_}
 use lib.ListN.{length, getD, replicate, length-append, List·getD-append}
 use lib.Seq.{append-snoc, getD-at}
+use Rattle.letters.specs.Letters.{residue, base64url, digestLength}
 use Rattle.stretch.specs.Class.{every}
-use Rattle.letters.specs.Letters.{residue, base64url, every, digestLength}
 use Rattle.stretch.proofs.Class.{every-at}
-use Rattle.letters.proofs.Class.{every-at}
 use Rattle.decimals.specs.Decimal.{decimal}
 use Rattle.decimals.proofs.Digits.{decimal-digits}
 use Rattle.words.specs.Prefix.{Begins}
-use Rattle.words.specs.Vocabulary.{Word, Digest, Residues, DecimalFrom, DecimalTo}
-use Rattle.words.proofs.Following.{Then, Apart}
+use Rattle.words.specs.Vocabulary.{Word, Digest, Residues, DecimalFrom}
+use Rattle.words.proofs.Following.{Apart}
 
-pub decimal-to : {most : ℕ} (n : ℕ) → n ≤ most → DecimalTo most (decimal n)
-decimal-to n h = record { number = n; large = omega arith; small = h; digits = refl }
+pub decimal-from : {least most : ℕ} (n : ℕ) → least ≤ n → n ≤ most → DecimalFrom least most (decimal n)
+decimal-from n l h = record { number = n; large = l; small = h; digits = refl }
 
 pub some-digest : Digest (replicate digestLength 0x41)
 unfolding every base64url
@@ -44,28 +43,17 @@ apart-word word = apart-length (Word word) (length word) (λ w e. ap length e)
 pub apart-digest : (Next : List ℕ → List ℕ → Type 0) → Apart Digest Next
 apart-digest = apart-length Digest digestLength (λ w d. d .long)
 
--- what begins with a word begins with its first byte
-module _ (word : List ℕ) (nonempty : 0 < length word) (N : List ℕ → List ℕ → Type 0) where
-  pub begins-first : (c : ℕ) → Begins (Then (Word word) N) (c ∷ []) → c ≡ getD word 0 0
-  begins-first c b =
-      let t = b .whole in
-      ap (λ (l : List ℕ). getD l 0 0) (t .joined ∙ ap (λ (l : List ℕ). l ++ t .rest) (t .is-word)) ∙ List·getD-append word (t .rest) 0 0 nonempty
-
--- words of digits, or of residues, before a word that begins with none
-module _ (least most : ℕ) (word : List ℕ) (nonempty : 0 < length word) (N : List ℕ → List ℕ → List ℕ → Type 0) where
-  pub apart-decimal : (0x30 ≤ getD word 0 0 → getD word 0 0 ≤ 0x39 → ⊥)
-      → Apart (DecimalFrom least most) (λ w. Then (Word word) (N w))
-  apart-decimal f w c k b n =
+-- words of digits, and of residues, go on with one
+module _ (w : List ℕ) (c : ℕ) where
+  pub digits-on : (least most : ℕ) → Begins (DecimalFrom least most) (w ++ (c ∷ [])) → (0x30 ≤ c) × (c ≤ 0x39)
+  digits-on least most b =
       let d = b .whole in
-      let there : getD (decimal (d .number)) (length w) 0 ≡ getD word 0 0
-      = ap (λ (l : List ℕ). getD l (length w) 0) (sym (d .digits)) ∙ at-seam w (b .rest) c ∙ begins-first word nonempty (N w) c n in
+      let there : getD (decimal (d .number)) (length w) 0 ≡ c
+      = ap (λ (l : List ℕ). getD l (length w) 0) (sym (d .digits)) ∙ at-seam w (b .rest) c in
       let among = decimal-digits (d .number) (length w) (omega (arith, ap length (d .digits), longer w (b .rest) c)) in
-      f (omega (arith, among .0, there)) (omega (arith, among .1, there))
+      (omega (arith, among .0, there), omega (arith, among .1, there))
 
-module _ (most : ℕ) (word : List ℕ) (nonempty : 0 < length word) (N : List ℕ → List ℕ → List ℕ → Type 0) where
-  pub apart-residues : residue (getD word 0 0) ≡ false → Apart (Residues most) (λ w. Then (Word word) (N w))
-  apart-residues f w c k b n =
-      let among : residue c ≡ true
-      = ap residue (sym (at-seam w (b .rest) c))
-      ∙ every-at residue (w ++ (c ∷ []) ++ b .rest) (length w) (b .whole .residues) (omega (arith, longer w (b .rest) c)) in
-      let z : _≡_ {A = ℕ} 0 1 = cc (begins-first word nonempty (N w) c n) in omega arith
+  pub residues-on : (most : ℕ) → Begins (Residues most) (w ++ (c ∷ [])) → residue c ≡ true
+  residues-on most b =
+      ap residue (sym (at-seam w (b .rest) c))
+      ∙ every-at residue (w ++ (c ∷ []) ++ b .rest) (length w) (b .whole .residues) (omega (arith, longer w (b .rest) c))

@@ -1,6 +1,6 @@
 -- The part that the text's reading points at, or the empty one of a text that is refused.
 use borrow.Author.Needs.{needs}
-use Rattle.reading.proofs.Promises.{reads-location-says, refused-location, hands-part, hands-none}
+use Rattle.reading.proofs.Promises.{accepted-location, refused-location, hands-part, hands-none}
 use Rattle.reading.proofs.location.digest_of.Statement.{statement}
 use Rattle.reading.proofs.location.digest_of.Tie as tie
 
@@ -13,7 +13,7 @@ enum-known-location c = search needs
 part-of-requires : tie.Need-part-of-requires
 part-of-requires c κs =
     let f = c .before in
-    reads-location-says _ (f .location .given .0 .0) (rw (f .location .given .1) at (f .before .before .read-location .ensures)) .digest .within
+    accepted-location (f .before .before .read-location .ensures) (f .location .given .1) .digest .within
 
 enum-told : tie.Need-enum-told
 enum-told c = search needs
@@ -24,14 +24,23 @@ part-of-requires-2 c κs = search needs
 returns : tie.Need-returns
 returns c =
     let f = c .before .before in
-    let s = reads-location-says _ (f .location .given .0 .0) (rw (f .location .given .1) at (f .before .before .read-location .ensures)) in
+    let s = accepted-location (f .before .before .read-location .ensures) (f .location .given .1) in
     hands-part (s .is) (s .digest) (c .part-of .ensures)
 
 returns-2 : tie.Need-returns-2
-returns-2 c = let f = c .before in
-    hands-none (refused-location _ _ (rw (f .enum-told .given .1) at (f .before .before .read-location .ensures))) (c .part-of2 .ensures)
+returns-2 c =
+    let f = c .before in
+    let other = refused-location (f .before .before .read-location .ensures) (f .enum-told .given .1) in
+    hands-none other (c .part-of2 .ensures)
 
 pub digest-of-spec : {M : Type 1} → statement M
 digest-of-spec =
     tie.close
-    (tie.spec read-location-requires enum-known-location part-of-requires enum-told part-of-requires-2 returns returns-2)
+    (tie.spec
+    read-location-requires
+    enum-known-location
+    part-of-requires
+    enum-told
+    part-of-requires-2
+    returns
+    returns-2)

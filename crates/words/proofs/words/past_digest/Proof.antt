@@ -40,7 +40,8 @@ returns-2 c =
     let s = c .before .before .before .before .before .before in
     let n = c .first-outside-base64url .result in
     let first = rw (c .before .before .smaller .ensures, lent-most) at (c .first-outside-base64url .ensures) in
-    onward-step Digest _ (s .args .a) (s .pre) (not-false _ (c .before .before .before .if1 .left)) n (eqb n digestLength)
+    onward-step Digest _ (s .args .a) (s .pre) (not-false _ (c .before .before .before .if1 .left)) n
+    (eqb n digestLength)
     (λ e. goes-digest _ n first (eqb-true _ _ e))
     (λ e. stops-digest _ n first (eqb-false _ _ e))
 
