@@ -7,7 +7,7 @@ use mathlib.Core.Bool.{true, false}
 use mathlib.Core.List.{List}
 use lib.ListN.{length}
 use Rattle.refusal.specs.Limits.{sequenceLimit}
-use Rattle.letters.specs.Letters.{residue, digestLength}
+use Rattle.letters.specs.Letters.{letter, residue, digestLength}
 use Rattle.text.specs.Layout.{beforeLocation, beforeSequence, behindSequence, alleleText}
 use Rattle.words.specs.declared.Walk.{Walk}
 use Rattle.words.specs.Vocabulary.{Word, Digest, Residues}
@@ -44,7 +44,7 @@ layout =
     word behindSequence close))))
 
 unfoldable allele : LaidOut AlleleText layout
-unfolding alleleText residue
+unfolding alleleText residue letter
 allele =
     record {
       sound =
