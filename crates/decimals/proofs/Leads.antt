@@ -4,8 +4,12 @@ use native.Mathlib.Numerals.{add-one}
 use native.Mathlib.Omega.{arith}
 use mathlib.Core.Path.{_≡_, refl, _∙_, sym, ap}
 use mathlib.Core.List.{List, [], _∷_, _++_, append-assoc, append-nil}
+use lib.Dec.{ltb}
 use lib.ListN.{length, getD, take, drop, length-append, List·getD-append}
 use lib.Seq.{length-take-le, take-suc, take-all, take-take, split-at, getD-take, getD-at}
+use borrow.Author.Tests.{ltb-true, ltb-false}
+use Rattle.stretch.proofs.Cases.{by-cases}
+use Rattle.decimals.specs.declared.Leading.{Leading}
 use Rattle.decimals.specs.declared.Number.the-variants.{Is, Absent}
 use Rattle.decimals.specs.Decimal.{digit, decimal}
 use Rattle.decimals.specs.Number.{valueFrom, value, numberWithin}
@@ -133,3 +137,29 @@ module _ (most : ℕ) (s : List ℕ) where
 
     pub whole-is : (k ≡ 0 → ⊥) → length s ≤ k → least ≤ n → numberWithin least most s ≡ Is n
     whole-is f h g = number-is least most s n g (r .small) (whole f h)
+
+-- a text has one answer
+module _ (most : ℕ) (s : List ℕ) where
+  not-further : {k₁ n₁ k₂ n₂ : ℕ} → Leads most s k₁ n₁ → Leads most s k₂ n₂ → k₁ < k₂ → ⊥
+  not-further {k₂ = k₂} {n₂ = n₂} p q h =
+      p .furthest k₂ h (q .within) n₂ [] (q .small) (append-nil (take k₂ s) ∙ q .digits (omega arith))
+
+  pub leads-once : (a b : Leading) → Leads most s (a .length) (a .number) → Leads most s (b .length) (b .number) → a ≡ b
+  leads-once a b p q = λ i. record { length = long i; number = number i }
+    where
+      long : a .length ≡ b .length
+      long =
+          by-cases (ltb (a .length) (b .length))
+          (λ e. absurd (not-further p q (ltb-true (a .length) (b .length) e)))
+          (λ e. by-cases (ltb (b .length) (a .length))
+          (λ f. absurd (not-further q p (ltb-true (b .length) (a .length) f)))
+          (λ f. omega (arith, ltb-false (a .length) (b .length) e, ltb-false (b .length) (a .length) f)))
+
+      number : a .number ≡ b .number
+      number =
+          by-cases (ltb 0 (a .length))
+          (λ e. let some : 0 < a .length = ltb-true 0 (a .length) e in
+          decimal-injective (a .number) (b .number)
+          (sym (p .digits some) ∙ ap (λ (k : ℕ). take k s) long ∙ q .digits (omega (arith, long))))
+          (λ e. let none : a .length ≡ 0 = omega (arith, ltb-false 0 (a .length) e) in
+          p .none none ∙ sym (q .none (sym long ∙ none)))
