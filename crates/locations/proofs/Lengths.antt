@@ -1,9 +1,16 @@
--- How long a location's text and its identifier are, and the longest text.
-use Prim.Native.Nat.{ℕ, _+_, _*_, _^_, _<_, _≤_}
+-- How long a location's text and its identifier are, the longest text, and the room that one takes.
+use Prim.Native.Nat.{ℕ, _+_, _-_, _*_, _^_, _<_, _≤_}
 use native.Mathlib.Omega.{arith}
-use mathlib.Core.Path.{_≡_}
-use mathlib.Core.List.{List}
-use lib.ListN.{length}
+use mathlib.Core.Path.{_≡_, refl}
+use mathlib.Core.List.{List, _++_}
+use lib.ListN.{length, take, drop, length-drop}
+use Rattle.stretch.specs.Over.{Wrote}
+use Rattle.stretch.proofs.Over.{over-tail-front}
+use Rattle.stretch.proofs.Tail.{lent-tail}
+use Rattle.refusal.specs.declared.Written.the-variants.{Bytes}
+use Rattle.refusal.specs.Verdict.{accepted}
+use Rattle.refusal.specs.Writes.{Writes}
+use Rattle.refusal.proofs.Writes.{writes-all}
 use Rattle.letters.specs.Letters.{digestLength}
 use Rattle.decimals.specs.Decimal.{decimal}
 use Rattle.text.specs.Layout.{locationText, locationWords}
@@ -26,7 +33,23 @@ pub length-location-identifier : (start end : ℕ) (digest : List ℕ)
 unfolding locationIdentifier
 length-location-identifier start end digest = rw (length-sha512t24u (locationText start end digest))
 
--- a location text as long as the code counts it
-pub location-long : (start end : ℕ) (digest : List ℕ) → length digest ≡ digestLength
-    → length (decimal start) + length (decimal end) + aroundNumbers ≡ length (locationText start end digest)
-location-long start end digest e = omega (arith, length-location start end digest)
+-- a location text is as long as the code counts it
+pub location-long : (start end : ℕ) (digest : List ℕ) (a b : ℕ) → a ≡ length (decimal start) → b ≡ length (decimal end)
+    → length digest ≡ digestLength → a + b + aroundNumbers ≡ length (locationText start end digest)
+location-long start end digest a b p q e = omega (arith, length-location start end digest)
+
+-- a text that is laid over the tail of a buffer
+module _ (out : List ℕ) (place : ℕ) where
+  pub tail-holds : (start end : ℕ) (digest : List ℕ) → place + length (locationText start end digest) ≤ length out
+      → length (decimal end) + (length (decimal start) + (length digest + locationWords))
+      ≤ length (take (length out - place) (drop place out))
+  tail-holds start end digest room =
+      rw (lent-tail out place, length-drop place out) (omega (arith, length-location start end digest))
+
+  pub tail-written : (text tail : List ℕ) (n : ℕ) → place + length text ≤ length out
+      → Wrote (take (length out - place) (drop place out)) 0 text tail n
+      → Writes accepted text out place (Bytes n)
+      (take place out ++ (tail ++ drop (length out - place) (drop place out)))
+  tail-written text tail n room w =
+      writes-all accepted text out place n _ refl (omega (arith, w .next))
+      (rw (w .laid) (over-tail-front out place text room))

@@ -1,7 +1,7 @@
 -- What the calls on a location's text and identifier promise: the grounds of each in document 01's order, and what is written.
 use Prim.Native.Nat.{ℕ}
 use mathlib.Core.List.{List, [], _∷_, _++_}
-use Rattle.refusal.specs.Grounds.{referenceOverLimit, startAboveEnd, endAboveReference}
+use Rattle.refusal.specs.Grounds.{referenceOverLimit, startAboveEnd, endAboveReference, outputTooShort}
 use Rattle.refusal.specs.Verdict.{Ground, verdict, tell}
 use Rattle.refusal.specs.Writes.{Says}
 use Rattle.refusal.specs.declared.Outcome.{Outcome}
@@ -29,3 +29,8 @@ IdentifiesLocation n start end digest = Says (locationGrounds n start end digest
 -- what the tests before the room answer
 unfoldable pub locationAnswer : ℕ → ℕ → ℕ → List ℕ → Outcome
 locationAnswer n start end digest = tell Refused (verdict (locationGrounds n start end digest)) Accepted
+
+-- and with it, for so many bytes
+unfoldable pub outputAnswer : ℕ → ℕ → ℕ → List ℕ → ℕ → ℕ → ℕ → Outcome
+outputAnswer n start end digest room place needed =
+    tell Refused (verdict (locationGrounds n start end digest ++ (outputTooShort room place needed ∷ []))) Accepted

@@ -16,13 +16,12 @@ use refusal::sum_exceeds;
 use text::LOCATION_WORDS;
 use text::write_location;
 ghost use mathlib.Core.Path.{_≡_};
-ghost use mathlib.Core.List.{[]};
+ghost use Prim.Native.Nat.{_+_, _≤_};
 ghost use lib.ListN.{length};
-ghost use Rattle.refusal.specs.Writes.{Says};
-ghost use Rattle.letters.specs.Letters.{digestLength};
+ghost use Rattle.refusal.specs.Verdict.{accepted};
+ghost use Rattle.refusal.specs.Writes.{Writes};
 ghost use Rattle.text.specs.Layout.{locationText};
-ghost use Rattle.locations.specs.Identifier.{locationIdentifier};
-ghost use Rattle.locations.specs.Calls.{locationAnswer, SaysLocation, IdentifiesLocation};
+ghost use Rattle.locations.specs.Calls.{locationAnswer, outputAnswer, SaysLocation, IdentifiesLocation};
 
 const LOCATION_PREFIX: [u8; 10] = *b"ga4gh:VSL.";
 
@@ -47,30 +46,37 @@ fn check_location(residues: u64, start: u64, end: u64, digest: &[u8]) -> Outcome
     check_digest_text(digest)
 }
 
-// 6, and the text.
-fn write_text(start: u64, end: u64, digest: &[u8], out: &mut [u8], place: u64) -> Written
-    requires { ⌜ length (now digest) ≡ digestLength ⌝ }
-    ensures { λ r. ⌜ Says [] (locationText start end (now (digest .entry))) (now (out .entry)) place r (now (out .exit)) ⌝ }
+// The same, and 6 after them: `needed` bytes from `place` on in a buffer of `room` bytes.
+fn check_output(
+    residues: u64,
+    start: u64,
+    end: u64,
+    digest: &[u8],
+    needed: u64,
+    place: u64,
+    room: u64,
+) -> Outcome
+    ensures { λ r. ⌜ r ≡ outputAnswer residues start end (now (digest .entry)) room place needed ⌝ }
 {
-    let length = (decimal_length(start) + decimal_length(end) + AROUND_NUMBERS) as u64;
-    if sum_exceeds(place, length, out.len() as u64) {
-        return Written::Refused(refuse(OUTPUT_TOO_SHORT, length));
+    match check_location(residues, start, end, digest) {
+        Outcome::Accepted => {
+            if sum_exceeds(place, needed, room) {
+                return Outcome::Refused(refuse(OUTPUT_TOO_SHORT, needed));
+            }
+            Outcome::Accepted
+        }
+        Outcome::Refused(why) => Outcome::Refused(why),
     }
-    let at = place as usize;
-    write_location(&mut out[at..], start, end, digest);
-    Written::Bytes(length)
 }
 
-// 6, and the identifier.
-fn write_identifier(start: u64, end: u64, digest: &[u8], out: &mut [u8], place: u64) -> Written
-    requires { ⌜ length (now digest) ≡ digestLength ⌝ }
-    ensures { λ r. ⌜ Says [] (locationIdentifier start end (now (digest .entry))) (now (out .entry)) place r (now (out .exit)) ⌝ }
+// Writes the location text into `out`, which has room for it from `place` on.
+fn place_text(start: u64, end: u64, digest: &[u8], out: &mut [u8], place: u64) -> Written
+    requires { ⌜ place + length (locationText start end (now digest)) ≤ length (now out) ⌝ }
+    ensures { λ r. ⌜ Writes accepted (locationText start end (now (digest .entry))) (now (out .entry)) place r (now (out .exit)) ⌝ }
 {
-    if sum_exceeds(place, IDENTIFIER_LENGTH, out.len() as u64) {
-        return Written::Refused(refuse(OUTPUT_TOO_SHORT, IDENTIFIER_LENGTH));
-    }
-    let hash = location_hash(start, end, digest);
-    place_identifier(out, place, &LOCATION_PREFIX, &hash)
+    let at = place as usize;
+    let written = write_location(&mut out[at..], start, end, digest);
+    Written::Bytes(written as u64)
 }
 
 // Writes the location text into `out` from `place` on.
@@ -84,8 +90,10 @@ pub fn location_text(
 ) -> Written
     ensures { λ r. ⌜ SaysLocation residues start end (now (digest .entry)) (now (out .entry)) place r (now (out .exit)) ⌝ }
 {
-    match check_location(residues, start, end, digest) {
-        Outcome::Accepted => write_text(start, end, digest, out, place),
+    let room = out.len() as u64;
+    let needed = (decimal_length(start) + decimal_length(end) + AROUND_NUMBERS) as u64;
+    match check_output(residues, start, end, digest, needed, place, room) {
+        Outcome::Accepted => place_text(start, end, digest, out, place),
         Outcome::Refused(why) => Written::Refused(why),
     }
 }
@@ -101,8 +109,12 @@ pub fn location_identifier(
 ) -> Written
     ensures { λ r. ⌜ IdentifiesLocation residues start end (now (digest .entry)) (now (out .entry)) place r (now (out .exit)) ⌝ }
 {
-    match check_location(residues, start, end, digest) {
-        Outcome::Accepted => write_identifier(start, end, digest, out, place),
+    let room = out.len() as u64;
+    match check_output(residues, start, end, digest, IDENTIFIER_LENGTH, place, room) {
+        Outcome::Accepted => {
+            let hash = location_hash(start, end, digest);
+            place_identifier(out, place, &LOCATION_PREFIX, &hash)
+        }
         Outcome::Refused(why) => Written::Refused(why),
     }
 }

@@ -1,19 +1,37 @@
--- The tests, and 6 behind them.
-use mathlib.Core.Path.{_∙_, sym}
+-- The tests by the identifier's length, and the identifier of the text's hash.
+use native.Mathlib.Omega.{arith}
+use mathlib.Core.Path.{_≡_, _∙_, sym}
+use lib.ListN.{length}
+use Rattle.encoding.specs.Digest.{sha512t24u}
+use Rattle.locations.specs.Identifier.{locationIdentifier}
+use Rattle.locations.proofs.Answers.{output-digest, output-room, output-says, output-silent}
+use Rattle.locations.proofs.Lengths.{length-location-identifier}
 use borrow.Author.Needs.{needs}
-use Rattle.refusal.proofs.Says.{says-then, says-nothing}
-use Rattle.locations.proofs.Answers.{location-accepted, location-digest, location-refused}
 use Rattle.locations.proofs.location.location_identifier.Statement.{statement}
 use Rattle.locations.proofs.location.location_identifier.Tie as tie
 
-check-location-requires : tie.Need-check-location-requires
-check-location-requires c κs = search needs
+check-output-requires : tie.Need-check-output-requires
+check-output-requires c κs = search needs
 
 enum-told : tie.Need-enum-told
 enum-told c = search needs
 
-write-identifier-requires : tie.Need-write-identifier-requires
-write-identifier-requires c κs = let k = c .before .before .before in location-digest _ _ _ _ (sym (c .before .enum-told .given .1) ∙ k .check-location .ensures)
+location-hash-requires : tie.Need-location-hash-requires
+location-hash-requires c κs =
+    output-digest _ _ _ _ _ _ _ (sym (c .enum-told .given .1) ∙ c .before .before .check-output .ensures)
+
+slice-aggregate-place-identifier : tie.Need-slice-aggregate-place-identifier
+slice-aggregate-place-identifier c = search needs
+
+slice-aggregate-place-identifier-2 : tie.Need-slice-aggregate-place-identifier-2
+slice-aggregate-place-identifier-2 c = search needs
+
+place-identifier-requires : tie.Need-place-identifier-requires
+place-identifier-requires c κs =
+    let h = c .before .before .before in
+    let t = h .before in
+    let long : length (h .location-hash .result) ≡ 64 = search needs in
+    (output-room _ _ _ _ _ _ _ (sym (t .enum-told .given .1) ∙ t .before .before .check-output .ensures), omega arith)
 
 enum-known-why : tie.Need-enum-known-why
 enum-known-why c = search needs
@@ -22,19 +40,29 @@ same-length : tie.Need-same-length
 same-length c = search needs
 
 returns : tie.Need-returns
-returns c = let e = c .before .before .before .before in
-    says-then _ _ _ _ _ _ (location-accepted _ _ _ _ (sym (e .enum-told .given .1) ∙ e .before .before .check-location .ensures)) (c .before .before .write-identifier .ensures)
+unfolding locationIdentifier sha512t24u
+returns c =
+    let h = c .before .before .before .before .before .before in
+    let t = h .before in
+    output-says _ _ _ _ _ _ _ _ (λ _. sym (length-location-identifier _ _ _)) _ _
+    (sym (t .enum-told .given .1) ∙ t .before .before .check-output .ensures)
+    (rw (← h .location-hash .ensures) (c .before .before .place-identifier .ensures))
 
 returns-2 : tie.Need-returns-2
-returns-2 c = says-nothing _ _ _ _ _ (location-refused _ _ _ _ _ (sym (c .before .why .given .1) ∙ c .before .before .before .check-location .ensures))
+returns-2 c =
+    output-silent _ _ _ _ _ _ _ _ (λ _. sym (length-location-identifier _ _ _)) _
+    (sym (c .before .why .given .1) ∙ c .before .before .before .check-output .ensures)
 
 pub location-identifier-spec : {M : Type 1} → statement M
 location-identifier-spec =
     tie.close
     (tie.spec
-    check-location-requires
+    check-output-requires
     enum-told
-    write-identifier-requires
+    location-hash-requires
+    slice-aggregate-place-identifier
+    slice-aggregate-place-identifier-2
+    place-identifier-requires
     enum-known-why
     same-length
     returns

@@ -1,19 +1,48 @@
--- The tests, and 6 behind them.
+-- The tests by the length of the text, and the text.
+use native.Mathlib.Omega.{arith}
 use mathlib.Core.Path.{_∙_, sym}
+use Rattle.decimals.proofs.Digits.{decimal-within}
+use Rattle.text.specs.Layout.{locationText}
+use Rattle.locations.proofs.Answers.{output-place, output-says, output-silent}
+use Rattle.locations.proofs.Lengths.{location-long}
 use borrow.Author.Needs.{needs}
-use Rattle.refusal.proofs.Says.{says-then, says-nothing}
-use Rattle.locations.proofs.Answers.{location-accepted, location-digest, location-refused}
 use Rattle.locations.proofs.location.location_text.Statement.{statement}
 use Rattle.locations.proofs.location.location_text.Tie as tie
 
-check-location-requires : tie.Need-check-location-requires
-check-location-requires c κs = search needs
+decimal-length-requires : tie.Need-decimal-length-requires
+decimal-length-requires c κs = search needs
+
+decimal-length-requires-2 : tie.Need-decimal-length-requires-2
+decimal-length-requires-2 c κs = search needs
+
+add-needed : tie.Need-add-needed
+add-needed c =
+    let s = c .before .before .before .before in
+    let first = decimal-within (s .args .start) (s .fits .start .fits) in
+    let second = decimal-within (s .args .end) (s .fits .end .fits) in
+    omega (arith, c .before .decimal-length .ensures, c .decimal-length2 .ensures, first, second)
+
+add-needed-2 : tie.Need-add-needed-2
+add-needed-2 c =
+    let s = c .before .before .before .before in
+    let first = decimal-within (s .args .start) (s .fits .start .fits) in
+    let second = decimal-within (s .args .end) (s .fits .end .fits) in
+    omega (arith, c .before .decimal-length .ensures, c .decimal-length2 .ensures, first, second)
+
+check-output-requires : tie.Need-check-output-requires
+check-output-requires c κs = search needs
 
 enum-told : tie.Need-enum-told
 enum-told c = search needs
 
-write-text-requires : tie.Need-write-text-requires
-write-text-requires c κs = let k = c .before .before .before in location-digest _ _ _ _ (sym (c .before .enum-told .given .1) ∙ k .check-location .ensures)
+place-text-requires : tie.Need-place-text-requires
+place-text-requires c κs =
+    let k = c .before .before .before in
+    let d = k .before in
+    let a = d .before .before .before .before .args in
+    let e = sym (c .before .enum-told .given .1) ∙ k .check-output .ensures in
+    output-place _ _ _ _ (locationText (a .start) (a .end) (a .digest .now)) (a .out .now) (a .place) _
+    (location-long _ _ (a .digest .now) _ _ (d .before .decimal-length .ensures) (d .decimal-length2 .ensures)) e
 
 enum-known-why : tie.Need-enum-known-why
 enum-known-why c = search needs
@@ -22,19 +51,32 @@ same-length : tie.Need-same-length
 same-length c = search needs
 
 returns : tie.Need-returns
-returns c = let e = c .before .before .before .before in
-    says-then _ _ _ _ _ _ (location-accepted _ _ _ _ (sym (e .enum-told .given .1) ∙ e .before .before .check-location .ensures)) (c .before .before .write-text .ensures)
+returns c =
+    let t = c .before .before .before .before in
+    let k = t .before .before in
+    let d = k .before in
+    let long = location-long _ _ _ _ _ (d .before .decimal-length .ensures) (d .decimal-length2 .ensures) in
+    output-says _ _ _ _ _ _ _ _ long _ _ (sym (t .enum-told .given .1) ∙ k .check-output .ensures)
+    (c .before .before .place-text .ensures)
 
 returns-2 : tie.Need-returns-2
-returns-2 c = says-nothing _ _ _ _ _ (location-refused _ _ _ _ _ (sym (c .before .why .given .1) ∙ c .before .before .before .check-location .ensures))
+returns-2 c =
+    let k = c .before .before .before in
+    let d = k .before in
+    let long = location-long _ _ _ _ _ (d .before .decimal-length .ensures) (d .decimal-length2 .ensures) in
+    output-silent _ _ _ _ _ _ _ _ long _ (sym (c .before .why .given .1) ∙ k .check-output .ensures)
 
 pub location-text-spec : {M : Type 1} → statement M
 location-text-spec =
     tie.close
     (tie.spec
-    check-location-requires
+    decimal-length-requires
+    decimal-length-requires-2
+    add-needed
+    add-needed-2
+    check-output-requires
     enum-told
-    write-text-requires
+    place-text-requires
     enum-known-why
     same-length
     returns
