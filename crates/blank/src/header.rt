@@ -1,16 +1,16 @@
 // A blank image: its header, with no number issued.
 use changes::put_four;
 use image::COUNT_LIMIT;
-use image::DIGEST;
+use image::DIGEST_AT;
 use image::ENTRY_SIZE;
 use image::FIRST_EDITION;
 use image::HEADER_SIZE;
-use image::JOURNAL_CAPACITY;
-use image::POOL_AT;
+use image::JOURNAL_CAPACITY_AT;
 use image::POOL_LIMIT;
-use image::POOL_USED;
+use image::POOL_OFFSET_AT;
+use image::POOL_USED_AT;
 use image::RECORD_SIZE;
-use image::REFERENCE_LENGTH;
+use image::REFERENCE_LENGTH_AT;
 use image::put_number;
 use letters::check_digest_text;
 use refusal::NO_ROOM_FOR_IMAGE;
@@ -85,11 +85,11 @@ fn write_header(
     let journal_at = HEADER_SIZE + RECORD_SIZE * records;
     let pool_at = journal_at + ENTRY_SIZE * journal;
     put_four(image, 0, FIRST_EDITION, records, 0, HEADER_SIZE);
-    put_four(image, JOURNAL_CAPACITY, journal, 0, journal_at, pool);
-    put_number(image, POOL_USED, 0);
-    put_number(image, POOL_AT, pool_at);
-    put_number(image, REFERENCE_LENGTH, residues);
-    copy_at(image, DIGEST, digest);
+    put_four(image, JOURNAL_CAPACITY_AT, journal, 0, journal_at, pool);
+    put_number(image, POOL_USED_AT, 0);
+    put_number(image, POOL_OFFSET_AT, pool_at);
+    put_number(image, REFERENCE_LENGTH_AT, residues);
+    copy_at(image, DIGEST_AT, digest);
 }
 
 // Makes the image a blank one of these capacities, on a reference of so many residues.

@@ -5,7 +5,7 @@ use lib.ListN.{length}
 use Rattle.stretch.specs.Over.{over}
 use Rattle.normal.specs.Form.{Normal}
 use Rattle.image.specs.Numbers.{put}
-use Rattle.image.specs.Fields.{issued, issuedPlace, journalCount, journalCountPlace, poolAt, poolUsed, poolUsedPlace, recordAt, recordOf, statusAt, statusOf, active, inactive, entryAt, entryOf, headerOf}
+use Rattle.image.specs.Fields.{issued, issuedPlace, journalCount, journalCountPlace, poolOffset, poolUsed, poolUsedPlace, recordPlace, recordOf, statusPlace, statusOf, active, inactive, entryPlace, entryOf, headerOf}
 
 -- blank: the header, and nothing else
 unfoldable pub blanked : List ℕ → ℕ → List ℕ → ℕ → ℕ → ℕ → List ℕ
@@ -13,11 +13,11 @@ blanked b n digest records journal pool = over b 0 (headerOf n digest records jo
 
 -- an image made of b by a change to a number, with the number in b's next journal entry
 unfoldable pub journalled : List ℕ → List ℕ → ℕ → List ℕ
-journalled b changed i = put (put changed (entryAt b (journalCount b)) i) journalCountPlace (journalCount b + 1)
+journalled b changed i = put (put changed (entryPlace b (journalCount b)) i) journalCountPlace (journalCount b + 1)
 
 -- a number made active or inactive
 unfoldable pub marked : List ℕ → ℕ → ℕ → List ℕ
-marked b i status = put b (statusAt i) status
+marked b i status = put b (statusPlace i) status
 
 -- withdrawal, and entry answered "again"
 unfoldable pub withdrawn : List ℕ → ℕ → List ℕ
@@ -29,10 +29,10 @@ reentered b i = journalled b (marked b i active) i
 -- a form in the next record, its replacement behind those in the pool, and both counted
 unfoldable pub recorded : List ℕ → Normal → List ℕ
 recorded b f =
-    over b (recordAt (issued b + 1)) (recordOf (f .start) (f .end) (poolUsed b) (length (f .replacement)) active)
+    over b (recordPlace (issued b + 1)) (recordOf (f .start) (f .end) (poolUsed b) (length (f .replacement)) active)
 
 unfoldable pub pooled : List ℕ → List ℕ → List ℕ → List ℕ
-pooled b changed x = over changed (poolAt b + poolUsed b) x
+pooled b changed x = over changed (poolOffset b + poolUsed b) x
 
 unfoldable pub counted : List ℕ → List ℕ → ℕ → List ℕ
 counted b changed letters = put (put changed issuedPlace (issued b + 1)) poolUsedPlace (poolUsed b + letters)

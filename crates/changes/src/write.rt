@@ -2,12 +2,12 @@
 use forming::Form;
 use image::ACTIVE;
 use image::ENTRY_SIZE;
-use image::ISSUED;
-use image::JOURNAL_AT;
-use image::JOURNAL_COUNT;
-use image::POOL_AT;
-use image::POOL_USED;
-use image::STATUS;
+use image::ISSUED_AT;
+use image::JOURNAL_COUNT_AT;
+use image::JOURNAL_OFFSET_AT;
+use image::POOL_OFFSET_AT;
+use image::POOL_USED_AT;
+use image::STATUS_IN_RECORD;
 use image::put_number;
 use image::read_number;
 use image::record_at;
@@ -39,7 +39,7 @@ pub fn mark(image: &mut [u8], number: usize, status: usize)
     requires { ⌜ (1 ≤ number) × (number ≤ countLimit) × (headerSize + recordSize * number ≤ length (now image)) ⌝ }
     ensures { λ _. ⌜ now (image .exit) ≡ marked (now (image .entry)) number status ⌝ }
 {
-    put_number(image, record_at(number) + STATUS, status);
+    put_number(image, record_at(number) + STATUS_IN_RECORD, status);
 }
 
 // Puts a number in the journal that begins at `at`, behind so many entries, and counts it.
@@ -48,7 +48,7 @@ fn journal(image: &mut [u8], at: usize, count: usize, number: usize)
     ensures { λ _. ⌜ now (image .exit) ≡ put (put (now (image .entry)) (at + entrySize * count) number) journalCountPlace (count + 1) ⌝ }
 {
     put_number(&mut image[at..], ENTRY_SIZE * count, number);
-    put_number(image, JOURNAL_COUNT, count + 1);
+    put_number(image, JOURNAL_COUNT_AT, count + 1);
 }
 
 // Makes a number active or inactive, and journals it.
@@ -58,8 +58,8 @@ pub fn change(image: &mut [u8], number: usize, status: usize)
     requires { ⌜ journalCount (now image) < journalCapacity (now image) ⌝ }
     ensures { λ _. ⌜ now (image .exit) ≡ journalled (now (image .entry)) (marked (now (image .entry)) number status) number ⌝ }
 {
-    let at = read_number(image, JOURNAL_AT);
-    let count = read_number(image, JOURNAL_COUNT);
+    let at = read_number(image, JOURNAL_OFFSET_AT);
+    let count = read_number(image, JOURNAL_COUNT_AT);
     mark(image, number, status);
     journal(image, at, count, number);
 }
@@ -77,7 +77,7 @@ fn put_record(image: &mut [u8], at: usize, form: Form, offset: usize)
         offset,
         form.length as usize,
     );
-    put_number(image, at + STATUS, ACTIVE);
+    put_number(image, at + STATUS_IN_RECORD, ACTIVE);
 }
 
 // Puts a replacement in the pool.
@@ -93,8 +93,8 @@ fn put_counts(image: &mut [u8], issued: usize, used: usize)
     requires { ⌜ headerSize ≤ length (now image) ⌝ }
     ensures { λ _. ⌜ now (image .exit) ≡ put (put (now (image .entry)) issuedPlace issued) poolUsedPlace used ⌝ }
 {
-    put_number(image, ISSUED, issued);
-    put_number(image, POOL_USED, used);
+    put_number(image, ISSUED_AT, issued);
+    put_number(image, POOL_USED_AT, used);
 }
 
 // Gives a form the next number, in an image that has room for it.
@@ -104,11 +104,11 @@ pub fn number_form(image: &mut [u8], form: Form, a: &[u8], b: &[u8], c: &[u8])
     requires { ⌜ (issued (now image) < recordCapacity (now image)) × (poolUsed (now image) + form .length ≤ poolCapacity (now image)) × (journalCount (now image) < journalCapacity (now image)) ⌝ }
     ensures { λ _. ⌜ now (image .exit) ≡ numbered (now (image .entry)) (asked form (now (a .entry)) (now (b .entry)) (now (c .entry))) ⌝ }
 {
-    let number = read_number(image, ISSUED) + 1;
-    let used = read_number(image, POOL_USED);
-    let pool = read_number(image, POOL_AT);
-    let at = read_number(image, JOURNAL_AT);
-    let count = read_number(image, JOURNAL_COUNT);
+    let number = read_number(image, ISSUED_AT) + 1;
+    let used = read_number(image, POOL_USED_AT);
+    let pool = read_number(image, POOL_OFFSET_AT);
+    let at = read_number(image, JOURNAL_OFFSET_AT);
+    let count = read_number(image, JOURNAL_COUNT_AT);
     put_record(image, record_at(number), form, used);
     put_replacement(image, pool + used, a, b, c);
     put_counts(image, number, used + form.length as usize);

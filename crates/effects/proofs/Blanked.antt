@@ -9,7 +9,7 @@ use Rattle.stretch.proofs.Over.{length-over}
 use Rattle.stretch.proofs.Through.{part-laid}
 use Rattle.refusal.specs.Limits.{referenceLimit}
 use Rattle.image.specs.Numbers.{number, numbers}
-use Rattle.image.specs.Fields.{headerSize, countLimit, poolLimit, journalPlace, poolPlace, imageSize, sequenceDigest, headerOf}
+use Rattle.image.specs.Fields.{headerSize, firstEdition, digestPlace, countLimit, poolLimit, journalPlace, poolPlace, imageSize, sequenceDigest, headerOf}
 use Rattle.image.proofs.Patched.{length-numbers, number-laid, number-first, number-numbers}
 use Rattle.changes.specs.Changes.{blanked}
 use Rattle.effects.proofs.Seen.{Fresh}
@@ -17,7 +17,7 @@ use Rattle.effects.proofs.Seen.{Fresh}
 -- the numbers of the header
 abbrev fields : ℕ → ℕ → ℕ → ℕ → List ℕ
 fields n records journal pool =
-    1
+    firstEdition
     ∷ records
     ∷ 0
     ∷ headerSize
@@ -54,8 +54,8 @@ module _ (b : List ℕ) (n : ℕ) (digest : List ℕ) (records journal pool : �
   unfolding blanked headerOf
   blanked-digest =
       let vs = fields n records journal pool in
-      part-laid b 0 header (omega arith) 44 headerSize (omega arith) (omega (arith, header-length))
-      ∙ ap (take 32) (drop-at (numbers vs) digest 44 (length-numbers vs))
+      part-laid b 0 header (omega arith) digestPlace headerSize (omega arith) (omega (arith, header-length))
+      ∙ ap (take 32) (drop-at (numbers vs) digest digestPlace (length-numbers vs))
       ∙ ap (λ (k : ℕ). take k digest) (sym whole)
       ∙ take-length digest
 

@@ -9,21 +9,22 @@ use lib.Dec.{leb, ltb}
 use lib.ListN.{length}
 use borrow.Author.Tests.{leb-true, leb-false, ltb-true, ltb-false}
 use Rattle.stretch.proofs.Cases.{by-cases}
-use Rattle.image.specs.Fields.{headerSize, recordSize, entrySize, recordCapacity, issued, issuedPlace, journalCapacity, journalCount, journalCountPlace, journalAt, poolCapacity, poolUsed, poolUsedPlace, poolAt, recordAt, statusAt, entryAt}
+use Rattle.image.specs.Fields.{headerSize, recordSize, entrySize, editionPlace, recordCapacity, issued, issuedPlace, recordsOffsetPlace, journalCapacity, journalCount, journalCountPlace, journalOffset, journalOffsetPlace, poolCapacity, poolUsed, poolUsedPlace, poolOffset, poolOffsetPlace, recordPlace, statusPlace, entryPlace}
 use Rattle.image.specs.Header.{Header}
 use Rattle.image.proofs.Patched.{record-header, record-order, record-apart, record-journal}
 use Rattle.image.proofs.Spared.{Aside}
 use Rattle.effects.proofs.Spares.{Unwritten, edition-on, records-on, journal-on, pool-on, record-of, status-of, entries, letters, Clear}
 
 module _ (b : List ℕ) (h : Header b) (i : ℕ) where
-  pub record-end : (j : ℕ) → 1 ≤ j → j ≤ issued b → recordAt j + recordSize ≤ journalAt b
+  pub record-end : (j : ℕ) → 1 ≤ j → j ≤ issued b → recordPlace j + recordSize ≤ journalOffset b
   record-end j o l = omega (arith, record-journal j (recordCapacity b) o (omega (arith, h .records)), h .journal)
 
-  journal-end : journalAt b + entrySize * journalCapacity b ≡ poolAt b
+  journal-end : journalOffset b + entrySize * journalCapacity b ≡ poolOffset b
   journal-end = omega (arith, h .journal, h .pool)
 
   -- a write to the header
-  clear-header : (p : ℕ) → p + 4 ≤ headerSize → Aside p 4 0 8 → Aside p 4 12 20 → Aside p 4 24 32 → Aside p 4 36 headerSize → Clear b i p 4
+  clear-header : (p : ℕ) → p + 4 ≤ headerSize → Aside p 4 editionPlace issuedPlace → Aside p 4 recordsOffsetPlace journalCountPlace
+      → Aside p 4 journalOffsetPlace poolUsedPlace → Aside p 4 poolOffsetPlace headerSize → Clear b i p 4
   clear-header p l first second third fourth = record { room = omega (arith, h .pool, h .whole); aside = beside }
     where
       beside : (from to : ℕ) → Unwritten b i from to → Aside p 4 from to
@@ -47,10 +48,10 @@ module _ (b : List ℕ) (h : Header b) (i : ℕ) where
 
   -- a write behind the header
   clear-behind : (at n : ℕ) → headerSize ≤ at → at + n ≤ length b
-      → ((j : ℕ) → 1 ≤ j → j ≤ issued b → Aside at n (recordAt j) (statusAt j))
-      → ((j : ℕ) → 1 ≤ j → j ≤ issued b → (j ≡ i → ⊥) → Aside at n (statusAt j) (statusAt j + 4))
-      → Aside at n (journalAt b) (entryAt b (journalCount b))
-      → Aside at n (poolAt b) (poolAt b + poolUsed b)
+      → ((j : ℕ) → 1 ≤ j → j ≤ issued b → Aside at n (recordPlace j) (statusPlace j))
+      → ((j : ℕ) → 1 ≤ j → j ≤ issued b → (j ≡ i → ⊥) → Aside at n (statusPlace j) (statusPlace j + 4))
+      → Aside at n (journalOffset b) (entryPlace b (journalCount b))
+      → Aside at n (poolOffset b) (poolOffset b + poolUsed b)
       → Clear b i at n
   clear-behind at n l room records statuses journal pool = record { room = room; aside = beside }
     where
@@ -64,10 +65,10 @@ module _ (b : List ℕ) (h : Header b) (i : ℕ) where
       beside _ _ entries = journal
       beside _ _ letters = pool
 
-  pub clear-status : 1 ≤ i → i ≤ issued b → Clear b i (statusAt i) 4
+  pub clear-status : 1 ≤ i → i ≤ issued b → Clear b i (statusPlace i) 4
   clear-status o g =
-      let end : statusAt i + 4 ≤ journalAt b = omega (arith, record-end i o g) in
-      clear-behind (statusAt i) 4 (omega (arith, record-header i)) (omega (arith, journal-end, h .whole))
+      let end : statusPlace i + 4 ≤ journalOffset b = omega (arith, record-end i o g) in
+      clear-behind (statusPlace i) 4 (omega (arith, record-header i)) (omega (arith, journal-end, h .whole))
       (λ j p q.
       by-cases (leb j i)
       (λ e. inl (omega (arith, record-order j i (leb-true j i e))))
@@ -79,27 +80,27 @@ module _ (b : List ℕ) (h : Header b) (i : ℕ) where
       (inr end)
       (inr (omega (arith, journal-end)))
 
-  pub clear-record : issued b < recordCapacity b → Clear b i (recordAt (issued b + 1)) recordSize
+  pub clear-record : issued b < recordCapacity b → Clear b i (recordPlace (issued b + 1)) recordSize
   clear-record g =
       let n = issued b + 1 in
-      let end : recordAt n + recordSize ≤ journalAt b = omega (arith, record-journal n (recordCapacity b) (omega arith) (omega arith), h .journal) in
-      clear-behind (recordAt n) recordSize (record-header n) (omega (arith, journal-end, h .whole))
+      let end : recordPlace n + recordSize ≤ journalOffset b = omega (arith, record-journal n (recordCapacity b) (omega arith) (omega arith), h .journal) in
+      clear-behind (recordPlace n) recordSize (record-header n) (omega (arith, journal-end, h .whole))
       (λ j p q. inl (omega (arith, record-apart j n p (omega arith))))
       (λ j p q _. inl (omega (arith, record-apart j n p (omega arith))))
       (inr end)
       (inr (omega (arith, journal-end)))
 
-  pub clear-entry : journalCount b < journalCapacity b → Clear b i (entryAt b (journalCount b)) entrySize
+  pub clear-entry : journalCount b < journalCapacity b → Clear b i (entryPlace b (journalCount b)) entrySize
   clear-entry g =
-      clear-behind (entryAt b (journalCount b)) entrySize (omega (arith, h .journal)) (omega (arith, journal-end, h .whole))
+      clear-behind (entryPlace b (journalCount b)) entrySize (omega (arith, h .journal)) (omega (arith, journal-end, h .whole))
       (λ j p q. inl (omega (arith, record-end j p q)))
       (λ j p q _. inl (omega (arith, record-end j p q)))
       (inl (omega arith))
       (inr (omega (arith, journal-end)))
 
-  pub clear-letters : (n : ℕ) → poolUsed b + n ≤ poolCapacity b → Clear b i (poolAt b + poolUsed b) n
+  pub clear-letters : (n : ℕ) → poolUsed b + n ≤ poolCapacity b → Clear b i (poolOffset b + poolUsed b) n
   clear-letters n g =
-      clear-behind (poolAt b + poolUsed b) n (omega (arith, h .pool)) (omega (arith, h .whole))
+      clear-behind (poolOffset b + poolUsed b) n (omega (arith, h .pool)) (omega (arith, h .whole))
       (λ j p q. inl (omega (arith, record-end j p q, journal-end)))
       (λ j p q _. inl (omega (arith, record-end j p q, journal-end)))
       (inl (omega (arith, journal-end, h .journalled)))

@@ -6,7 +6,7 @@ use mathlib.Core.Path.{_≡_, _∙_}
 use mathlib.Core.List.{List}
 use lib.ListN.{length}
 use Rattle.image.specs.Numbers.{number, put}
-use Rattle.image.specs.Fields.{journalCapacity, journalCount, journalCountPlace, entryAt, entrySize}
+use Rattle.image.specs.Fields.{journalCapacity, journalCount, journalCountPlace, entryPlace, entrySize}
 use Rattle.image.specs.Header.{Header}
 use Rattle.image.proofs.Numbers.{number-put}
 use Rattle.image.proofs.Spared.{Spared, Aside, spared-put, spared-on, spared-number, number-aside}
@@ -15,7 +15,7 @@ use Rattle.effects.proofs.Spares.{Spares, spares-put, spares-on}
 use Rattle.effects.proofs.Clear.{clear-count, clear-entry}
 
 abbrev pub nextEntry : List ℕ → ℕ
-nextEntry b = entryAt b (journalCount b)
+nextEntry b = entryPlace b (journalCount b)
 
 module _ (b : List ℕ) (h : Header b) (room : journalCount b < journalCapacity b) (i : ℕ) (c : List ℕ) (long : length c ≡ length b) (n : ℕ) where
   abbrev listed : List ℕ

@@ -6,7 +6,7 @@ use mathlib.Core.Path.{_≡_, refl, _∙_, ap}
 use mathlib.Core.List.{List}
 use lib.ListN.{length}
 use Rattle.image.specs.Numbers.{number, put}
-use Rattle.image.specs.Fields.{headerSize, issued, issuedPlace, journalCapacity, journalCount, journalCountPlace, poolUsed, poolUsedPlace, statusAt, statusOf, active, inactive}
+use Rattle.image.specs.Fields.{headerSize, issued, issuedPlace, journalCapacity, journalCount, journalCountPlace, poolUsed, poolUsedPlace, statusPlace, statusOf, active, inactive}
 use Rattle.image.specs.Header.{Header}
 use Rattle.image.proofs.Numbers.{number-put}
 use Rattle.image.proofs.Patched.{record-header}
@@ -22,16 +22,16 @@ module _ (b : List ℕ) (h : Header b) (w : Inside b) where
   module _ (i : ℕ) (o : 1 ≤ i) (g : i ≤ issued b) (v : ℕ) (small : v ≤ 1) where
     marked-spares : Spares b i b (marked b i v)
     unfolding marked
-    marked-spares = spares-put b i b (statusAt i) v refl (clear-status b h i o g)
+    marked-spares = spares-put b i b (statusPlace i) v refl (clear-status b h i o g)
 
     marked-number : (p : ℕ) → p + 4 ≤ headerSize → number (marked b i v) p ≡ number b p
     unfolding marked
     marked-number p l =
-        number-aside b (statusAt i) v (omega (arith, clear-status b h i o g .room)) p (inl (omega (arith, record-header i)))
+        number-aside b (statusPlace i) v (omega (arith, clear-status b h i o g .room)) p (inl (omega (arith, record-header i)))
 
     marked-now : statusOf (marked b i v) i ≡ v
     unfolding marked
-    marked-now = number-put b (statusAt i) v (omega (arith, clear-status b h i o g .room)) (omega arith)
+    marked-now = number-put b (statusPlace i) v (omega (arith, clear-status b h i o g .room)) (omega arith)
 
     -- a status, and then writes that leave it and the counts
     restated : (d : List ℕ) → Spares b i (marked b i v) d
@@ -60,7 +60,7 @@ module _ (b : List ℕ) (h : Header b) (w : Inside b) where
           restated = restated (journalled b c i) s
               (same issuedPlace (inl (omega (arith, h .journal))) (inl (omega arith)))
               (same poolUsedPlace (inl (omega (arith, h .journal))) (inr (omega arith)))
-              (same (statusAt i) (inl (omega arith)) (inr (omega (arith, record-header i))));
+              (same (statusPlace i) (inl (omega arith)) (inr (omega (arith, record-header i))));
           count = journalled-count b h room i c long i;
           last = read-entry-at b i (journalled b c i) (spares-on b i b c (journalled b c i) marked-spares s) (journalCount b)
               ∙ journalled-entry b h room i c long i (omega (arith, h .records, h .records-limit));
@@ -77,7 +77,7 @@ module _ (b : List ℕ) (h : Header b) (w : Inside b) where
           restated = restated (put c journalCountPlace m) (spares-put b i c journalCountPlace m (marked-spares .long) clear)
               (same issuedPlace (inl (omega arith)))
               (same poolUsedPlace (inr (omega arith)))
-              (same (statusAt i) (inr (omega (arith, record-header i))));
+              (same (statusPlace i) (inr (omega (arith, record-header i))));
           count = ap (λ (k : ℕ). k + 1) (number-put c journalCountPlace m room (omega (arith, h .journalled, h .journal-limit))) ∙ e;
         }
 

@@ -4,18 +4,18 @@ use mathlib.Core.Path.{_≡_}
 use mathlib.Core.List.{List}
 use lib.ListN.{length}
 use Rattle.normal.specs.Form.{Normal}
-use Rattle.image.specs.Fields.{headerSize, journalPlace, poolPlace, edition, recordCapacity, issued, recordsAt, journalCapacity, journalCount, journalAt, poolCapacity, poolUsed, poolAt, referenceLength, sequenceDigest, startOf, endOf, offsetOf, lengthOf, statusOf, replacementOf, entryOf, active}
+use Rattle.image.specs.Fields.{headerSize, journalPlace, poolPlace, edition, recordCapacity, issued, recordsOffset, journalCapacity, journalCount, journalOffset, poolCapacity, poolUsed, poolOffset, referenceLength, sequenceDigest, startOf, endOf, offsetOf, lengthOf, statusOf, replacementOf, entryOf, active}
 
 -- the header, but for its counts
 pub record Frame (b c : List ℕ) : Type 0 where
   pub long : length c ≡ length b
   pub edition : edition c ≡ edition b
   pub records : recordCapacity c ≡ recordCapacity b
-  pub records-at : recordsAt c ≡ recordsAt b
+  pub records-at : recordsOffset c ≡ recordsOffset b
   pub journal : journalCapacity c ≡ journalCapacity b
-  pub journal-at : journalAt c ≡ journalAt b
+  pub journal-at : journalOffset c ≡ journalOffset b
   pub pool : poolCapacity c ≡ poolCapacity b
-  pub pool-at : poolAt c ≡ poolAt b
+  pub pool-at : poolOffset c ≡ poolOffset b
   pub reference : referenceLength c ≡ referenceLength b
   pub digest : sequenceDigest c ≡ sequenceDigest b
 
@@ -81,12 +81,12 @@ pub record Fresh (room n : ℕ) (d : List ℕ) (r j p : ℕ) (c : List ℕ) : Ty
   pub edition : edition c ≡ 1
   pub records : recordCapacity c ≡ r
   pub numbers : issued c ≡ 0
-  pub records-at : recordsAt c ≡ headerSize
+  pub records-at : recordsOffset c ≡ headerSize
   pub journal : journalCapacity c ≡ j
   pub count : journalCount c ≡ 0
-  pub journal-at : journalAt c ≡ journalPlace r
+  pub journal-at : journalOffset c ≡ journalPlace r
   pub pool : poolCapacity c ≡ p
   pub used : poolUsed c ≡ 0
-  pub pool-at : poolAt c ≡ poolPlace r j
+  pub pool-at : poolOffset c ≡ poolPlace r j
   pub reference : referenceLength c ≡ n
   pub digest : sequenceDigest c ≡ d

@@ -7,20 +7,20 @@ use lib.ListN.{length}
 use Rattle.stretch.specs.Over.{over}
 use Rattle.stretch.proofs.Over.{length-over}
 use Rattle.image.specs.Numbers.{bytes, put}
-use Rattle.image.specs.Fields.{headerSize, issued, journalCount, journalAt, poolAt, poolUsed, recordAt, statusAt, entryAt}
+use Rattle.image.specs.Fields.{headerSize, editionPlace, issued, issuedPlace, recordsOffsetPlace, journalCount, journalCountPlace, journalOffset, journalOffsetPlace, poolOffset, poolOffsetPlace, poolUsed, poolUsedPlace, recordPlace, statusPlace, entryPlace}
 use Rattle.image.proofs.Numbers.{length-bytes}
 use Rattle.image.proofs.Spared.{Spared, Aside, spared-over, spared-on}
 
 -- of b: the header but for its counts, the records but for number i's status, the journal, the pool's letters
 pub data Unwritten (b : List ℕ) (i : ℕ) : ℕ → ℕ → Type 0 where
-  edition-on : Unwritten b i 0 8
-  records-on : Unwritten b i 12 20
-  journal-on : Unwritten b i 24 32
-  pool-on : Unwritten b i 36 headerSize
-  record-of : (j : ℕ) → 1 ≤ j → j ≤ issued b → Unwritten b i (recordAt j) (statusAt j)
-  status-of : (j : ℕ) → 1 ≤ j → j ≤ issued b → (j ≡ i → ⊥) → Unwritten b i (statusAt j) (statusAt j + 4)
-  entries : Unwritten b i (journalAt b) (entryAt b (journalCount b))
-  letters : Unwritten b i (poolAt b) (poolAt b + poolUsed b)
+  edition-on : Unwritten b i editionPlace issuedPlace
+  records-on : Unwritten b i recordsOffsetPlace journalCountPlace
+  journal-on : Unwritten b i journalOffsetPlace poolUsedPlace
+  pool-on : Unwritten b i poolOffsetPlace headerSize
+  record-of : (j : ℕ) → 1 ≤ j → j ≤ issued b → Unwritten b i (recordPlace j) (statusPlace j)
+  status-of : (j : ℕ) → 1 ≤ j → j ≤ issued b → (j ≡ i → ⊥) → Unwritten b i (statusPlace j) (statusPlace j + 4)
+  entries : Unwritten b i (journalOffset b) (entryPlace b (journalCount b))
+  letters : Unwritten b i (poolOffset b) (poolOffset b + poolUsed b)
 
 -- a write of n bytes at a place lies within the image and beside all of them
 pub record Clear (b : List ℕ) (i at n : ℕ) : Type 0 where

@@ -9,7 +9,7 @@ use Rattle.stretch.specs.Part.{part}
 use Rattle.stretch.proofs.Over.{part-over}
 use Rattle.normal.specs.Form.{Normal}
 use Rattle.image.specs.Numbers.{number, numbers}
-use Rattle.image.specs.Fields.{recordSize, recordCapacity, issued, poolCapacity, poolUsed, poolAt, recordAt, recordOf, active}
+use Rattle.image.specs.Fields.{recordSize, recordCapacity, issued, poolCapacity, poolUsed, poolOffset, recordPlace, recordOf, active}
 use Rattle.image.specs.Header.{Header}
 use Rattle.image.proofs.Patched.{length-numbers, number-laid, number-numbers, record-journal}
 use Rattle.image.proofs.Spared.{number-beside}
@@ -29,39 +29,39 @@ module _ (b : List ℕ) (h : Header b) (f : Normal)
     (record-room : issued b < recordCapacity b)
     (pool-room : poolUsed b + length (f .replacement) ≤ poolCapacity b)
   where
-    next-end : recordAt (issued b + 1) + recordSize ≤ poolAt b
+    next-end : recordPlace (issued b + 1) + recordSize ≤ poolOffset b
     next-end = omega (arith, record-journal (issued b + 1) (recordCapacity b) (omega arith) (omega arith), h .pool)
 
     recorded-spares : Spares b 0 b (recorded b f)
     unfolding recorded recordOf
     recorded-spares =
-        spares-over b 0 b (recordAt (issued b + 1)) (numbers (laid b f)) refl (rw (length-numbers (laid b f)) (clear-record b h 0 record-room))
+        spares-over b 0 b (recordPlace (issued b + 1)) (numbers (laid b f)) refl (rw (length-numbers (laid b f)) (clear-record b h 0 record-room))
 
-    recorded-number : (k : ℕ) → k < 5 → getD (laid b f) k 0 < 2 ^ 32 → number (recorded b f) (recordAt (issued b + 1) + 4 * k) ≡ getD (laid b f) k 0
+    recorded-number : (k : ℕ) → k < 5 → getD (laid b f) k 0 < 2 ^ 32 → number (recorded b f) (recordPlace (issued b + 1) + 4 * k) ≡ getD (laid b f) k 0
     unfolding recorded recordOf
     recorded-number k l g =
-        let room : recordAt (issued b + 1) ≤ length b = omega (arith, clear-record b h 0 record-room .room) in
-        number-laid b (recordAt (issued b + 1)) (numbers (laid b f)) room (4 * k) (rw (length-numbers (laid b f)) (omega arith))
+        let room : recordPlace (issued b + 1) ≤ length b = omega (arith, clear-record b h 0 record-room .room) in
+        number-laid b (recordPlace (issued b + 1)) (numbers (laid b f)) room (4 * k) (rw (length-numbers (laid b f)) (omega arith))
         ∙ number-numbers (laid b f) k l g
 
-    pool-starts : poolAt b + poolUsed b ≤ length (recorded b f)
+    pool-starts : poolOffset b + poolUsed b ≤ length (recorded b f)
     pool-starts = omega (arith, recorded-spares .long, h .whole)
 
     pub stored-spares : Spares b 0 b (stored b f)
     unfolding pooled
     stored-spares =
         spares-on b 0 b (recorded b f) (stored b f) recorded-spares
-        (spares-over b 0 (recorded b f) (poolAt b + poolUsed b) (f .replacement) (recorded-spares .long)
+        (spares-over b 0 (recorded b f) (poolOffset b + poolUsed b) (f .replacement) (recorded-spares .long)
         (clear-letters b h 0 (length (f .replacement)) pool-room))
 
     -- the record's numbers, in their order
-    pub stored-number : (k : ℕ) → k < 5 → getD (laid b f) k 0 < 2 ^ 32 → number (stored b f) (recordAt (issued b + 1) + 4 * k) ≡ getD (laid b f) k 0
+    pub stored-number : (k : ℕ) → k < 5 → getD (laid b f) k 0 < 2 ^ 32 → number (stored b f) (recordPlace (issued b + 1) + 4 * k) ≡ getD (laid b f) k 0
     unfolding pooled
     stored-number k l g =
-        let at = recordAt (issued b + 1) + 4 * k in
-        number-beside (recorded b f) (poolAt b + poolUsed b) (f .replacement) pool-starts at (inl (omega (arith, next-end)))
+        let at = recordPlace (issued b + 1) + 4 * k in
+        number-beside (recorded b f) (poolOffset b + poolUsed b) (f .replacement) pool-starts at (inl (omega (arith, next-end)))
         ∙ recorded-number k l g
 
-    pub stored-letters : part (stored b f) (poolAt b + poolUsed b) (poolAt b + poolUsed b + length (f .replacement)) ≡ f .replacement
+    pub stored-letters : part (stored b f) (poolOffset b + poolUsed b) (poolOffset b + poolUsed b + length (f .replacement)) ≡ f .replacement
     unfolding pooled
-    stored-letters = part-over (recorded b f) (poolAt b + poolUsed b) (f .replacement) (length (f .replacement)) pool-starts refl
+    stored-letters = part-over (recorded b f) (poolOffset b + poolUsed b) (f .replacement) (length (f .replacement)) pool-starts refl

@@ -2,9 +2,9 @@
 use forming::Form;
 use forming::Located;
 use forming::locate_clean;
-use image::DIGEST;
+use image::DIGEST_AT;
 use image::HEADER_SIZE;
-use image::REFERENCE_LENGTH;
+use image::REFERENCE_LENGTH_AT;
 use image::read_number;
 use image::well_formed;
 use normal::Kind;
@@ -34,10 +34,10 @@ fn check_image(image: &[u8], digest: &[u8], reference: &[u8]) -> Outcome
     if !well_formed(image) {
         return Outcome::Refused(refuse(IMAGE_NOT_WELL_FORMED, 0));
     }
-    if !equal(digest, &image[DIGEST..HEADER_SIZE]) {
+    if !equal(digest, &image[DIGEST_AT..HEADER_SIZE]) {
         return Outcome::Refused(refuse(OTHER_REFERENCE, 0));
     }
-    if reference.len() != read_number(image, REFERENCE_LENGTH) {
+    if reference.len() != read_number(image, REFERENCE_LENGTH_AT) {
         return Outcome::Refused(refuse(OTHER_REFERENCE, 1));
     }
     Outcome::Accepted

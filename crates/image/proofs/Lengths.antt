@@ -7,7 +7,7 @@ use mathlib.Core.Path.{_≡_, refl, _∙_, subst}
 use mathlib.Core.List.{List}
 use lib.ListN.{length}
 use Rattle.stretch.proofs.Interval.{length-part}
-use Rattle.image.specs.Fields.{issued, poolAt, poolUsed, offsetOf, lengthOf, replacementOf}
+use Rattle.image.specs.Fields.{issued, poolOffset, poolUsed, offsetOf, lengthOf, replacementOf}
 use Rattle.image.specs.Formed.{lengths}
 use Rattle.image.proofs.WellFormed.{Formed}
 
@@ -36,6 +36,6 @@ module _ (b : List ℕ) (f : Formed b) where
   pub formed-length : (i : ℕ) → 1 ≤ i → i ≤ issued b → length (replacementOf b i) ≡ lengthOf b i
   unfolding replacementOf
   formed-length i h g =
-      let from = poolAt b + offsetOf b i in
+      let from = poolOffset b + offsetOf b i in
       let room : from + lengthOf b i ≤ length b = omega (arith, formed-inside i h g, f .header .used, f .header .whole) in
       length-part b from (from + lengthOf b i) (omega arith) room ∙ omega arith

@@ -17,7 +17,7 @@ use Rattle.stretch.specs.Class.{every}
 use Rattle.letters.specs.Letters.{residue}
 use Rattle.stretch.proofs.Class.{every-append}
 use Rattle.image.specs.Numbers.{number}
-use Rattle.image.specs.Fields.{issued, poolUsed, recordAt, poolAt, referenceLength, startOf, endOf, offsetOf, lengthOf, statusOf, replacementOf}
+use Rattle.image.specs.Fields.{issued, poolUsed, recordPlace, endInRecord, offsetInRecord, lengthInRecord, statusInRecord, active, poolOffset, referenceLength, startOf, endOf, offsetOf, lengthOf, statusOf, replacementOf}
 use Rattle.image.specs.Formed.{all, lengths, recordGood}
 use Rattle.image.proofs.Tests.{all-append, all-one, both, last}
 
@@ -26,7 +26,7 @@ abbrev placedTests : List ℕ → ℕ → List Bool
 placedTests b k =
     leb (startOf b (suc k)) (endOf b (suc k))
     ∷ leb (endOf b (suc k)) (referenceLength b)
-    ∷ leb (statusOf b (suc k)) 1
+    ∷ leb (statusOf b (suc k)) active
     ∷ eqb (offsetOf b (suc k)) (lengths b k)
     ∷ []
 
@@ -44,7 +44,7 @@ unfolding placed
 offset b k h =
     let order = both (leb (startOf b (suc k)) (endOf b (suc k))) _ h in
     let within = both (leb (endOf b (suc k)) (referenceLength b)) _ (order .1) in
-    let status = both (leb (statusOf b (suc k)) 1) _ (within .1) in
+    let status = both (leb (statusOf b (suc k)) active) _ (within .1) in
     eqb-true _ _ (last _ (status .1))
 
 part-join : (b : List ℕ) (at m n : ℕ) → part b at (at + (m + n)) ≡ part b at (at + m) ++ part b (at + m) (at + m + n)
@@ -58,24 +58,28 @@ cond-swap false true = refl
 cond-swap false false = refl
 
 -- the pool's residues behind the first n records
-good-pool : (b : List ℕ) (n : ℕ) → below (placed b) n ≡ true → below (recordGood b) n ≡ every residue (part b (poolAt b) (poolAt b + lengths b n))
+good-pool : (b : List ℕ) (n : ℕ) → below (placed b) n ≡ true → below (recordGood b) n ≡ every residue (part b (poolOffset b) (poolOffset b + lengths b n))
 unfolding below lengths replacementOf every
-good-pool b zero h = rw (add-sub-cancel-left (poolAt b) 0)
+good-pool b zero h = rw (add-sub-cancel-left (poolOffset b) 0)
 good-pool b (suc n) h =
     let here : placed b n ≡ true = below-at (placed b) (suc n) h n (omega arith) in
-    let at = poolAt b + lengths b n in
+    let at = poolOffset b + lengths b n in
     rw (good-placed b n, here, offset b n here, good-pool b n (below-first (placed b) n h))
-    (rw (part-join b (poolAt b) (lengths b n) (lengthOf b (suc n)), every-append)
-    (cond-swap (every residue (part b at (at + lengthOf b (suc n)))) (every residue (part b (poolAt b) at))))
+    (rw (part-join b (poolOffset b) (lengths b n) (lengthOf b (suc n)), every-append)
+    (cond-swap (every residue (part b at (at + lengthOf b (suc n)))) (every residue (part b (poolOffset b) at))))
 
 -- the loop over the records: one as the code tests it, one more, one that is not placed, and the end
-pub placed-at : (b : List ℕ) (k at reference before : ℕ) → at ≡ recordAt (k + 1) → reference ≡ referenceLength b → before ≡ lengths b k
-    → all (leb (number b at) (number b (at + 4)) ∷ leb (number b (at + 4)) reference ∷ leb (number b (at + 16)) 1 ∷ eqb (number b (at + 8)) before ∷ [])
+pub placed-at : (b : List ℕ) (k at reference before : ℕ) → at ≡ recordPlace (k + 1) → reference ≡ referenceLength b → before ≡ lengths b k
+    → all (leb (number b at) (number b (at + endInRecord))
+    ∷ leb (number b (at + endInRecord)) reference
+    ∷ leb (number b (at + statusInRecord)) active
+    ∷ eqb (number b (at + offsetInRecord)) before
+    ∷ [])
     ≡ placed b k
 unfolding placed
 placed-at b k at reference before p q r = rw (p, q, r, add-one k)
 
-pub lengths-next : (b : List ℕ) (k at before : ℕ) → at ≡ recordAt (k + 1) → before ≡ lengths b k → before + number b (at + 12) ≡ lengths b (k + 1)
+pub lengths-next : (b : List ℕ) (k at before : ℕ) → at ≡ recordPlace (k + 1) → before ≡ lengths b k → before + number b (at + lengthInRecord) ≡ lengths b (k + 1)
 unfolding lengths
 lengths-next b k at before p q = rw (p, q, add-one k)
 
@@ -85,7 +89,7 @@ module _ (b : List ℕ) where
   records-bad k l e = rw (below-fails (recordGood b) (issued b) k l (good-placed b k ∙ rw e))
 
   pub records-end : (letters : ℕ) → letters ≡ lengths b (issued b) → below (placed b) (issued b) ≡ true
-      → cond (eqb letters (poolUsed b)) (every residue (part b (poolAt b) (poolAt b + letters))) false
+      → cond (eqb letters (poolUsed b)) (every residue (part b (poolOffset b) (poolOffset b + letters))) false
       ≡ cond (below (recordGood b) (issued b)) (eqb (lengths b (issued b)) (poolUsed b)) false
   records-end letters e h =
       rw (e, ← good-pool b (issued b) h) (cond-swap (eqb (lengths b (issued b)) (poolUsed b)) (below (recordGood b) (issued b)))

@@ -8,8 +8,8 @@ use lib.ListN.{length}
 use borrow.Author.Tests.{leb-true, eqb-true}
 use Rattle.stretch.specs.Below.{below}
 use Rattle.stretch.specs.Class.{every}
-use Rattle.letters.specs.Letters.{base64url}
-use Rattle.image.specs.Fields.{headerSize, edition, issued, recordsAt, journalCount, poolCapacity, poolUsed, poolAt, sequenceDigest}
+use Rattle.letters.specs.Letters.{base64url, every}
+use Rattle.image.specs.Fields.{headerSize, edition, issued, recordsAt, journalCount, poolCapacity, poolUsed, poolAt, sequenceDigest, firstEdition, recordsOffset, poolOffset}
 use Rattle.image.specs.Formed.{all, laidOut, countsWithin, withinLimits, lengths, recordGood, entryGood, wellFormed}
 use Rattle.image.specs.Header.{Header}
 use Rattle.image.proofs.Tests.{all-append, all-one, both, last}
@@ -20,7 +20,7 @@ headTests b =
     ∷ countsWithin b
     ∷ withinLimits b
     ∷ every base64url (sequenceDigest b)
-    ∷ leb (poolAt b + poolCapacity b) (length b)
+    ∷ leb (poolOffset b + poolCapacity b) (length b)
     ∷ []
 
 abbrev recordTests : List ℕ → List Bool
@@ -46,8 +46,8 @@ header-tested b h =
     let counts = both _ _ (laid .1) in
     let limits = both _ _ (counts .1) in
     let digest = both (every base64url (sequenceDigest b)) _ (limits .1) in
-    let edition-first = both (eqb (edition b) 1) _ (laid .0) in
-    let records-at = both (eqb (recordsAt b) headerSize) _ (edition-first .1) in
+    let edition-first = both (eqb (edition b) firstEdition) _ (laid .0) in
+    let records-at = both (eqb (recordsOffset b) headerSize) _ (edition-first .1) in
     let journal-at = both _ _ (records-at .1) in
     let records = both _ _ (counts .0) in
     let journalled = both _ _ (records .1) in

@@ -9,8 +9,8 @@ use lib.ListN.{length}
 use borrow.Author.Tests.{leb-true, le-leb, eqb-true, eq-eqb}
 use Rattle.stretch.proofs.Below.{below-at, below-all}
 use Rattle.stretch.specs.Class.{every}
-use Rattle.letters.specs.Letters.{residue, base64url}
-use Rattle.image.specs.Fields.{headerSize, edition, issued, recordsAt, journalCount, poolUsed, referenceLength, sequenceDigest, startOf, endOf, offsetOf, statusOf, replacementOf, entryOf}
+use Rattle.letters.specs.Letters.{residue, base64url, every}
+use Rattle.image.specs.Fields.{headerSize, edition, issued, recordsAt, journalCount, poolUsed, referenceLength, sequenceDigest, startOf, endOf, offsetOf, statusOf, replacementOf, entryOf, firstEdition, active, recordsOffset}
 use Rattle.image.specs.Formed.{laidOut, countsWithin, withinLimits, lengths, recordGood, entryGood, wellFormed}
 use Rattle.image.specs.Header.{Header}
 use Rattle.image.proofs.Tests.{both, last}
@@ -20,7 +20,7 @@ use Rattle.image.proofs.Tested.{formed-steps, header-tested}
 pub record FormedRecord (b : List ℕ) (k : ℕ) : Type 0 where
   pub ordered : startOf b (suc k) ≤ endOf b (suc k)
   pub inside : endOf b (suc k) ≤ referenceLength b
-  pub status : statusOf b (suc k) ≤ 1
+  pub status : statusOf b (suc k) ≤ active
   pub offset : offsetOf b (suc k) ≡ lengths b k
   pub residues : every residue (replacementOf b (suc k)) ≡ true
 
@@ -32,8 +32,8 @@ pub record FormedEntry (b : List ℕ) (j : ℕ) : Type 0 where
 -- the tests of a well-formed image as facts: that it holds a header follows from the place of its pool
 pub record Formed (b : List ℕ) : Type 0 where
   pub header : Header b
-  pub edition : edition b ≡ 1
-  pub records-at : recordsAt b ≡ headerSize
+  pub edition : edition b ≡ firstEdition
+  pub records-at : recordsOffset b ≡ headerSize
   pub digest : every base64url (sequenceDigest b) ≡ true
   pub records : (k : ℕ) → k < issued b → FormedRecord b k
   pub used : lengths b (issued b) ≡ poolUsed b

@@ -14,6 +14,10 @@ recordSize = 20
 abbrev pub entrySize : ℕ
 entrySize = 4
 
+-- the only edition there is
+abbrev pub firstEdition : ℕ
+firstEdition = 1
+
 -- what the capacities may be
 abbrev pub countLimit : ℕ
 countLimit = 10_000
@@ -31,58 +35,85 @@ poolPlace records journal = journalPlace records + entrySize * journal
 abbrev pub imageSize : ℕ → ℕ → ℕ → ℕ
 imageSize records journal pool = poolPlace records journal + pool
 
--- where the header's counts stand, which changes write
+-- where the header's fields stand, in the table's order
+abbrev pub editionPlace : ℕ
+editionPlace = 0
+
+abbrev pub recordCapacityPlace : ℕ
+recordCapacityPlace = 4
+
 abbrev pub issuedPlace : ℕ
 issuedPlace = 8
+
+abbrev pub recordsOffsetPlace : ℕ
+recordsOffsetPlace = 12
+
+abbrev pub journalCapacityPlace : ℕ
+journalCapacityPlace = 16
 
 abbrev pub journalCountPlace : ℕ
 journalCountPlace = 20
 
+abbrev pub journalOffsetPlace : ℕ
+journalOffsetPlace = 24
+
+abbrev pub poolCapacityPlace : ℕ
+poolCapacityPlace = 28
+
 abbrev pub poolUsedPlace : ℕ
 poolUsedPlace = 32
 
--- the header's fields, in the table's order
+abbrev pub poolOffsetPlace : ℕ
+poolOffsetPlace = 36
+
+abbrev pub referenceLengthPlace : ℕ
+referenceLengthPlace = 40
+
+abbrev pub digestPlace : ℕ
+digestPlace = 44
+
+-- what they hold
 abbrev pub edition : List ℕ → ℕ
-edition b = number b 0
+edition b = number b editionPlace
 
 abbrev pub recordCapacity : List ℕ → ℕ
-recordCapacity b = number b 4
+recordCapacity b = number b recordCapacityPlace
 
 abbrev pub issued : List ℕ → ℕ
 issued b = number b issuedPlace
 
-abbrev pub recordsAt : List ℕ → ℕ
-recordsAt b = number b 12
+abbrev pub recordsOffset : List ℕ → ℕ
+recordsOffset b = number b recordsOffsetPlace
 
 abbrev pub journalCapacity : List ℕ → ℕ
-journalCapacity b = number b 16
+journalCapacity b = number b journalCapacityPlace
 
 abbrev pub journalCount : List ℕ → ℕ
 journalCount b = number b journalCountPlace
 
-abbrev pub journalAt : List ℕ → ℕ
-journalAt b = number b 24
+abbrev pub journalOffset : List ℕ → ℕ
+journalOffset b = number b journalOffsetPlace
 
 abbrev pub poolCapacity : List ℕ → ℕ
-poolCapacity b = number b 28
+poolCapacity b = number b poolCapacityPlace
 
 abbrev pub poolUsed : List ℕ → ℕ
 poolUsed b = number b poolUsedPlace
 
-abbrev pub poolAt : List ℕ → ℕ
-poolAt b = number b 36
+abbrev pub poolOffset : List ℕ → ℕ
+poolOffset b = number b poolOffsetPlace
 
 abbrev pub referenceLength : List ℕ → ℕ
-referenceLength b = number b 40
+referenceLength b = number b referenceLengthPlace
 
 abbrev pub sequenceDigest : List ℕ → List ℕ
-sequenceDigest b = part b 44 headerSize
+sequenceDigest b = part b digestPlace headerSize
 
 -- the bytes of a header with all counts 0: the reference's length and digest, and the three capacities
 unfoldable pub headerOf : ℕ → List ℕ → ℕ → ℕ → ℕ → List ℕ
 headerOf n digest records journal pool =
     numbers (
-    1
+    firstEdition
     ∷ records
     ∷ 0
     ∷ headerSize
@@ -97,28 +128,41 @@ headerOf n digest records journal pool =
     )
     ++ digest
 
--- record i, from 1
-unfoldable pub recordAt : ℕ → ℕ
-recordAt i = headerSize + recordSize * (i - 1)
+-- where record i stands, from 1
+unfoldable pub recordPlace : ℕ → ℕ
+recordPlace i = headerSize + recordSize * (i - 1)
 
--- its fields: normal start, normal end, offset in the pool, replacement length, status
+-- where its fields stand in it, after the normal start: normal end, offset in the pool, replacement length, status
+abbrev pub endInRecord : ℕ
+endInRecord = 4
+
+abbrev pub offsetInRecord : ℕ
+offsetInRecord = 8
+
+abbrev pub lengthInRecord : ℕ
+lengthInRecord = 12
+
+abbrev pub statusInRecord : ℕ
+statusInRecord = 16
+
+abbrev pub statusPlace : ℕ → ℕ
+statusPlace i = recordPlace i + statusInRecord
+
+-- what they hold
 abbrev pub startOf : List ℕ → ℕ → ℕ
-startOf b i = number b (recordAt i)
+startOf b i = number b (recordPlace i)
 
 abbrev pub endOf : List ℕ → ℕ → ℕ
-endOf b i = number b (recordAt i + 4)
+endOf b i = number b (recordPlace i + endInRecord)
 
 abbrev pub offsetOf : List ℕ → ℕ → ℕ
-offsetOf b i = number b (recordAt i + 8)
+offsetOf b i = number b (recordPlace i + offsetInRecord)
 
 abbrev pub lengthOf : List ℕ → ℕ → ℕ
-lengthOf b i = number b (recordAt i + 12)
-
-abbrev pub statusAt : ℕ → ℕ
-statusAt i = recordAt i + 16
+lengthOf b i = number b (recordPlace i + lengthInRecord)
 
 abbrev pub statusOf : List ℕ → ℕ → ℕ
-statusOf b i = number b (statusAt i)
+statusOf b i = number b (statusPlace i)
 
 -- the two statuses
 abbrev pub inactive : ℕ
@@ -133,11 +177,11 @@ recordOf start end offset length status = numbers (start ∷ end ∷ offset ∷ 
 
 -- its replacement, in the pool
 unfoldable pub replacementOf : List ℕ → ℕ → List ℕ
-replacementOf b i = part b (poolAt b + offsetOf b i) (poolAt b + offsetOf b i + lengthOf b i)
+replacementOf b i = part b (poolOffset b + offsetOf b i) (poolOffset b + offsetOf b i + lengthOf b i)
 
--- journal entry j, from 0
-abbrev pub entryAt : List ℕ → ℕ → ℕ
-entryAt b j = journalAt b + entrySize * j
+-- where journal entry j stands, from 0, and what it holds
+abbrev pub entryPlace : List ℕ → ℕ → ℕ
+entryPlace b j = journalOffset b + entrySize * j
 
 abbrev pub entryOf : List ℕ → ℕ → ℕ
-entryOf b j = number b (entryAt b j)
+entryOf b j = number b (entryPlace b j)

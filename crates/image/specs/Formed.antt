@@ -7,8 +7,8 @@ use lib.ListN.{length}
 use Rattle.stretch.specs.Below.{below}
 use Rattle.refusal.specs.Limits.{referenceLimit}
 use Rattle.stretch.specs.Class.{every}
-use Rattle.letters.specs.Letters.{residue, base64url}
-use Rattle.image.specs.Fields.{headerSize, countLimit, poolLimit, journalPlace, poolPlace, edition, recordCapacity, issued, recordsAt, journalCapacity, journalCount, journalAt, poolCapacity, poolUsed, poolAt, referenceLength, sequenceDigest, startOf, endOf, offsetOf, lengthOf, statusOf, replacementOf, entryOf}
+use Rattle.letters.specs.Letters.{residue, base64url, every}
+use Rattle.image.specs.Fields.{headerSize, countLimit, poolLimit, journalPlace, poolPlace, edition, recordCapacity, issued, recordsAt, journalCapacity, journalCount, journalAt, poolCapacity, poolUsed, poolAt, referenceLength, sequenceDigest, startOf, endOf, offsetOf, lengthOf, statusOf, replacementOf, entryOf, firstEdition, active, recordsOffset, journalOffset, poolOffset}
 
 -- all of the tests pass
 abbrev pub all : List Bool → Bool
@@ -19,10 +19,10 @@ all (t ∷ ts) = cond t (all ts) false
 unfoldable pub laidOut : List ℕ → Bool
 laidOut b =
     all (
-    eqb (edition b) 1
-    ∷ eqb (recordsAt b) headerSize
-    ∷ eqb (journalAt b) (journalPlace (recordCapacity b))
-    ∷ eqb (poolAt b) (poolPlace (recordCapacity b) (journalCapacity b))
+    eqb (edition b) firstEdition
+    ∷ eqb (recordsOffset b) headerSize
+    ∷ eqb (journalOffset b) (journalPlace (recordCapacity b))
+    ∷ eqb (poolOffset b) (poolPlace (recordCapacity b) (journalCapacity b))
     ∷ []
     )
 
@@ -53,7 +53,7 @@ recordGood b k =
     all (
     leb (startOf b (suc k)) (endOf b (suc k))
     ∷ leb (endOf b (suc k)) (referenceLength b)
-    ∷ leb (statusOf b (suc k)) 1
+    ∷ leb (statusOf b (suc k)) active
     ∷ eqb (offsetOf b (suc k)) (lengths b k)
     ∷ every residue (replacementOf b (suc k))
     ∷ []
@@ -72,7 +72,7 @@ wellFormed b =
     ∷ countsWithin b
     ∷ withinLimits b
     ∷ every base64url (sequenceDigest b)
-    ∷ leb (poolAt b + poolCapacity b) (length b)
+    ∷ leb (poolOffset b + poolCapacity b) (length b)
     ∷ below (recordGood b) (issued b)
     ∷ eqb (lengths b (issued b)) (poolUsed b)
     ∷ below (entryGood b) (journalCount b)

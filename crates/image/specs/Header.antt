@@ -4,11 +4,11 @@ use mathlib.Core.Path.{_≡_}
 use mathlib.Core.List.{List}
 use lib.ListN.{length}
 use Rattle.refusal.specs.Limits.{referenceLimit}
-use Rattle.image.specs.Fields.{countLimit, poolLimit, journalPlace, poolPlace, recordCapacity, issued, journalCapacity, journalCount, journalAt, poolCapacity, poolUsed, poolAt, referenceLength}
+use Rattle.image.specs.Fields.{countLimit, poolLimit, journalPlace, poolPlace, recordCapacity, issued, journalCapacity, journalCount, journalOffset, poolCapacity, poolUsed, poolOffset, referenceLength}
 
 pub record Header (b : List ℕ) : Type 0 where
-  pub journal : journalAt b ≡ journalPlace (recordCapacity b)
-  pub pool : poolAt b ≡ poolPlace (recordCapacity b) (journalCapacity b)
+  pub journal : journalOffset b ≡ journalPlace (recordCapacity b)
+  pub pool : poolOffset b ≡ poolPlace (recordCapacity b) (journalCapacity b)
   pub records : issued b ≤ recordCapacity b
   pub journalled : journalCount b ≤ journalCapacity b
   pub used : poolUsed b ≤ poolCapacity b
@@ -16,4 +16,4 @@ pub record Header (b : List ℕ) : Type 0 where
   pub journal-limit : journalCapacity b ≤ countLimit
   pub pool-limit : poolCapacity b ≤ poolLimit
   pub reference-limit : referenceLength b ≤ referenceLimit
-  pub whole : poolAt b + poolCapacity b ≤ length b
+  pub whole : poolOffset b + poolCapacity b ≤ length b

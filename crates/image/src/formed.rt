@@ -1,9 +1,9 @@
 // The test of well-formedness.
 use super::ENTRY_SIZE;
 use super::HEADER_SIZE;
-use super::ISSUED;
-use super::JOURNAL_AT;
-use super::JOURNAL_COUNT;
+use super::ISSUED_AT;
+use super::JOURNAL_COUNT_AT;
+use super::JOURNAL_OFFSET_AT;
 use super::header::header_formed;
 use super::number::read_number;
 use super::records::records_formed;
@@ -26,9 +26,9 @@ fn journal_formed(image: &[u8]) -> bool
     requires { ⌜ Header (now image) ⌝ }
     ensures { λ r. ⌜ r ≡ below (entryGood (now (image .entry))) (journalCount (now (image .entry))) ⌝ }
 {
-    let issued = read_number(image, ISSUED);
-    let journal = read_number(image, JOURNAL_AT);
-    let count = read_number(image, JOURNAL_COUNT);
+    let issued = read_number(image, ISSUED_AT);
+    let journal = read_number(image, JOURNAL_OFFSET_AT);
+    let count = read_number(image, JOURNAL_COUNT_AT);
     let mut passed = 0;
     while passed < count {
         if !between(1, read_number(image, journal + ENTRY_SIZE * passed), issued) {

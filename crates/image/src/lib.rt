@@ -31,38 +31,38 @@ pub const POOL_LIMIT: usize = 10_000_000;
 pub const FIRST_EDITION: usize = 1;
 
 // The places of the header's fields.
-pub const EDITION: usize = 0;
+pub const EDITION_AT: usize = 0;
 
-pub const RECORD_CAPACITY: usize = 4;
+pub const RECORD_CAPACITY_AT: usize = 4;
 
-pub const ISSUED: usize = 8;
+pub const ISSUED_AT: usize = 8;
 
-pub const RECORDS_AT: usize = 12;
+pub const RECORDS_OFFSET_AT: usize = 12;
 
-pub const JOURNAL_CAPACITY: usize = 16;
+pub const JOURNAL_CAPACITY_AT: usize = 16;
 
-pub const JOURNAL_COUNT: usize = 20;
+pub const JOURNAL_COUNT_AT: usize = 20;
 
-pub const JOURNAL_AT: usize = 24;
+pub const JOURNAL_OFFSET_AT: usize = 24;
 
-pub const POOL_CAPACITY: usize = 28;
+pub const POOL_CAPACITY_AT: usize = 28;
 
-pub const POOL_USED: usize = 32;
+pub const POOL_USED_AT: usize = 32;
 
-pub const POOL_AT: usize = 36;
+pub const POOL_OFFSET_AT: usize = 36;
 
-pub const REFERENCE_LENGTH: usize = 40;
+pub const REFERENCE_LENGTH_AT: usize = 40;
 
-pub const DIGEST: usize = 44;
+pub const DIGEST_AT: usize = 44;
 
 // The places of a record's fields within it; its start is the first.
-pub const END: usize = 4;
+pub const END_IN_RECORD: usize = 4;
 
-pub const OFFSET: usize = 8;
+pub const OFFSET_IN_RECORD: usize = 8;
 
-pub const LENGTH: usize = 12;
+pub const LENGTH_IN_RECORD: usize = 12;
 
-pub const STATUS: usize = 16;
+pub const STATUS_IN_RECORD: usize = 16;
 
 pub const INACTIVE: usize = 0;
 

@@ -1,15 +1,15 @@
 // The records of an image, where its header is as it should be.
 use super::ACTIVE;
-use super::END;
+use super::END_IN_RECORD;
 use super::HEADER_SIZE;
-use super::ISSUED;
-use super::LENGTH;
-use super::OFFSET;
-use super::POOL_AT;
-use super::POOL_USED;
+use super::ISSUED_AT;
+use super::LENGTH_IN_RECORD;
+use super::OFFSET_IN_RECORD;
+use super::POOL_OFFSET_AT;
+use super::POOL_USED_AT;
 use super::RECORD_SIZE;
-use super::REFERENCE_LENGTH;
-use super::STATUS;
+use super::REFERENCE_LENGTH_AT;
+use super::STATUS_IN_RECORD;
 use super::number::read_number;
 use letters::first_foreign;
 ghost use mathlib.Core.Path.{_≡_};
@@ -23,14 +23,14 @@ ghost use Rattle.stretch.specs.Part.{part};
 ghost use Rattle.stretch.specs.Class.{every};
 ghost use Rattle.letters.specs.Letters.{residue};
 ghost use Rattle.image.specs.Numbers.{number};
-ghost use Rattle.image.specs.Fields.{headerSize, recordSize, countLimit, issued, poolUsed, poolAt, recordAt, statusOf};
+ghost use Rattle.image.specs.Fields.{headerSize, recordSize, countLimit, issued, poolUsed, poolOffset, recordPlace, endInRecord, offsetInRecord, statusInRecord, statusOf, active};
 ghost use Rattle.image.specs.Formed.{all, lengths, recordGood};
 ghost use Rattle.image.specs.Header.{Header};
 
 // The place of a record, by its number.
 pub fn record_at(number: usize) -> usize
     requires { ⌜ (1 ≤ number) × (number ≤ countLimit) ⌝ }
-    ensures { λ r. ⌜ (r ≡ recordAt number) × (r + recordSize ≡ headerSize + recordSize * number) ⌝ }
+    ensures { λ r. ⌜ (r ≡ recordPlace number) × (r + recordSize ≡ headerSize + recordSize * number) ⌝ }
 {
     HEADER_SIZE + RECORD_SIZE * (number - 1)
 }
@@ -41,38 +41,38 @@ pub fn status_of(image: &[u8], number: usize) -> usize
     requires { ⌜ (1 ≤ number) × (number ≤ issued (now image)) ⌝ }
     ensures { λ r. ⌜ r ≡ statusOf (now (image .entry)) number ⌝ }
 {
-    read_number(image, record_at(number) + STATUS)
+    read_number(image, record_at(number) + STATUS_IN_RECORD)
 }
 
 // The tests of the record at a place but for its residues, where `before` residues stand before them.
 fn record_placed(image: &[u8], at: usize, reference: usize, before: usize) -> bool
     requires { ⌜ at + recordSize ≤ length (now image) ⌝ }
     ensures { λ r. ⌜ r ≡ all (
-        leb (number (now (image .entry)) at) (number (now (image .entry)) (at + 4))
-        ∷ leb (number (now (image .entry)) (at + 4)) reference
-        ∷ leb (number (now (image .entry)) (at + 16)) 1
-        ∷ eqb (number (now (image .entry)) (at + 8)) before
+        leb (number (now (image .entry)) at) (number (now (image .entry)) (at + endInRecord))
+        ∷ leb (number (now (image .entry)) (at + endInRecord)) reference
+        ∷ leb (number (now (image .entry)) (at + statusInRecord)) active
+        ∷ eqb (number (now (image .entry)) (at + offsetInRecord)) before
         ∷ []) ⌝ }
 {
-    let end = read_number(image, at + END);
+    let end = read_number(image, at + END_IN_RECORD);
     (read_number(image, at) <= end)
         & (end <= reference)
-        & (read_number(image, at + STATUS) <= ACTIVE)
-        & (read_number(image, at + OFFSET) == before)
+        & (read_number(image, at + STATUS_IN_RECORD) <= ACTIVE)
+        & (read_number(image, at + OFFSET_IN_RECORD) == before)
 }
 
 // Whether that many bytes are all that the pool uses, and each is a residue.
 fn pool_formed(image: &[u8], letters: usize) -> bool
     requires { ⌜ Header (now image) ⌝ }
     ensures { λ r. ⌜ r ≡ cond (eqb letters (poolUsed (now (image .entry))))
-        (every residue (part (now (image .entry)) (poolAt (now (image .entry))) (poolAt (now (image .entry)) + letters)))
+        (every residue (part (now (image .entry)) (poolOffset (now (image .entry))) (poolOffset (now (image .entry)) + letters)))
         false ⌝ }
 {
-    let used = read_number(image, POOL_USED);
+    let used = read_number(image, POOL_USED_AT);
     if letters != used {
         return false;
     }
-    let pool = read_number(image, POOL_AT);
+    let pool = read_number(image, POOL_OFFSET_AT);
     first_foreign(&image[pool..pool + letters]) == letters
 }
 
@@ -84,8 +84,8 @@ pub fn records_formed(image: &[u8]) -> bool
         (eqb (lengths (now (image .entry)) (issued (now (image .entry)))) (poolUsed (now (image .entry))))
         false ⌝ }
 {
-    let issued = read_number(image, ISSUED);
-    let reference = read_number(image, REFERENCE_LENGTH);
+    let issued = read_number(image, ISSUED_AT);
+    let reference = read_number(image, REFERENCE_LENGTH_AT);
     let mut letters = 0;
     let mut passed = 0;
     while passed < issued {
@@ -93,7 +93,7 @@ pub fn records_formed(image: &[u8]) -> bool
         if !record_placed(image, at, reference, letters) {
             return false;
         }
-        letters += read_number(image, at + LENGTH);
+        letters += read_number(image, at + LENGTH_IN_RECORD);
         passed += 1;
     }
     pool_formed(image, letters)

@@ -9,7 +9,7 @@ use lib.ListN.{length}
 use Rattle.stretch.specs.Same.{same}
 use Rattle.stretch.proofs.Same.{same-lengths}
 use Rattle.normal.specs.Form.{Normal}
-use Rattle.image.specs.Fields.{issued, poolAt, startOf, endOf, offsetOf, lengthOf, statusOf, replacementOf}
+use Rattle.image.specs.Fields.{issued, poolOffset, startOf, endOf, offsetOf, lengthOf, statusOf, replacementOf}
 use Rattle.image.specs.Formed.{all, wellFormed}
 use Rattle.image.proofs.Tests.{all-append, all-one}
 use Rattle.image.proofs.WellFormed.{formed}
@@ -27,7 +27,7 @@ holds-steps b status f i =
     all-append (numberTests b status f i) (replaced ∷ []) ∙ rw (all-one replaced)
 
 module _ (b : List ℕ) (h : wellFormed b ≡ true) (i : ℕ) (numbered : (1 ≤ i) × (i ≤ issued b)) where
-  pub replacement-inside : poolAt b + offsetOf b i + lengthOf b i ≤ length b
+  pub replacement-inside : poolOffset b + offsetOf b i + lengthOf b i ≤ length b
   replacement-inside =
       let f = formed b h in
       omega (arith, formed-inside b f i (numbered .0) (numbered .1), f .header .used, f .header .whole)

@@ -1,11 +1,11 @@
 // How a normal form is found among the records. Its replacement lies in three stretches.
 use forming::Form;
-use image::END;
-use image::ISSUED;
-use image::LENGTH;
-use image::OFFSET;
-use image::POOL_AT;
-use image::STATUS;
+use image::END_IN_RECORD;
+use image::ISSUED_AT;
+use image::LENGTH_IN_RECORD;
+use image::OFFSET_IN_RECORD;
+use image::POOL_OFFSET_AT;
+use image::STATUS_IN_RECORD;
 use image::read_number;
 use image::record_at;
 use stretch::equal;
@@ -44,13 +44,13 @@ fn holds_numbers(image: &[u8], number: usize, status: usize, start: u64, end: u6
     ensures { λ r. ⌜ r ≡ all (eqb (statusOf (now (image .entry)) number) status ∷ eqb (startOf (now (image .entry)) number) start ∷ eqb (endOf (now (image .entry)) number) end ∷ []) ⌝ }
 {
     let at = record_at(number);
-    if read_number(image, at + STATUS) != status {
+    if read_number(image, at + STATUS_IN_RECORD) != status {
         return false;
     }
     if read_number(image, at) as u64 != start {
         return false;
     }
-    read_number(image, at + END) as u64 == end
+    read_number(image, at + END_IN_RECORD) as u64 == end
 }
 
 // Whether a number's replacement is the three stretches.
@@ -69,11 +69,11 @@ fn holds_replacement(
     ensures { λ r. ⌜ r ≡ same (replacementOf (now (image .entry)) number) (now (a .entry) ++ (now (b .entry) ++ now (c .entry))) ⌝ }
 {
     let at = record_at(number);
-    let length = read_number(image, at + LENGTH);
+    let length = read_number(image, at + LENGTH_IN_RECORD);
     if length as u64 != letters {
         return false;
     }
-    let from = read_number(image, POOL_AT) + read_number(image, at + OFFSET);
+    let from = read_number(image, POOL_OFFSET_AT) + read_number(image, at + OFFSET_IN_RECORD);
     equal_three(&image[from..from + length], a, b, c)
 }
 
@@ -112,7 +112,7 @@ pub fn lowest_holding(
     requires { ⌜ form .length ≡ length (now a) + (length (now b) + length (now c)) ⌝ }
     ensures { λ r. ⌜ (r ≡ lowestHolding (now (image .entry)) status (asked form (now (a .entry)) (now (b .entry)) (now (c .entry)))) × (r ≤ issued (now (image .entry))) ⌝ }
 {
-    let issued = read_number(image, ISSUED);
+    let issued = read_number(image, ISSUED_AT);
     let mut number = 0;
     while number < issued {
         number += 1;

@@ -5,12 +5,12 @@ use changes::number_form;
 use forming::Form;
 use image::ACTIVE;
 use image::INACTIVE;
-use image::ISSUED;
-use image::JOURNAL_CAPACITY;
-use image::JOURNAL_COUNT;
-use image::POOL_CAPACITY;
-use image::POOL_USED;
-use image::RECORD_CAPACITY;
+use image::ISSUED_AT;
+use image::JOURNAL_CAPACITY_AT;
+use image::JOURNAL_COUNT_AT;
+use image::POOL_CAPACITY_AT;
+use image::POOL_USED_AT;
+use image::RECORD_CAPACITY_AT;
 use image::read_number;
 use lookup::lowest_holding;
 use refusal::NO_FREE_RECORD;
@@ -41,8 +41,8 @@ fn reenter(image: &mut [u8], number: usize) -> Entered
     requires { ⌜ (1 ≤ number) × (number ≤ issued (now image)) ⌝ }
     ensures { λ r. ⌜ Keeps Refused (verdict (noJournalRoom (now (image .entry)) ∷ [])) (Again number) (now (image .entry)) (reentered (now (image .entry)) number) r (now (image .exit)) ⌝ }
 {
-    let capacity = read_number(image, JOURNAL_CAPACITY);
-    if capacity <= read_number(image, JOURNAL_COUNT) {
+    let capacity = read_number(image, JOURNAL_CAPACITY_AT);
+    if capacity <= read_number(image, JOURNAL_COUNT_AT) {
         return Entered::Refused(refuse(NO_JOURNAL_ROOM, capacity as u64));
     }
     change(image, number, ACTIVE);
@@ -55,17 +55,17 @@ fn enter_new(image: &mut [u8], form: Form, a: &[u8], b: &[u8], c: &[u8]) -> Ente
     requires { ⌜ form .length ≡ length (now a) + (length (now b) + length (now c)) ⌝ }
     ensures { λ r. ⌜ EntersAs (now (image .entry)) (asked form (now (a .entry)) (now (b .entry)) (now (c .entry))) (new under (issued (now (image .entry)) + 1)) r (now (image .exit)) ⌝ }
 {
-    let issued = read_number(image, ISSUED);
-    let records = read_number(image, RECORD_CAPACITY);
+    let issued = read_number(image, ISSUED_AT);
+    let records = read_number(image, RECORD_CAPACITY_AT);
     if records <= issued {
         return Entered::Refused(refuse(NO_FREE_RECORD, records as u64));
     }
-    let pool = read_number(image, POOL_CAPACITY) as u64;
-    if sum_exceeds(read_number(image, POOL_USED) as u64, form.length, pool) {
+    let pool = read_number(image, POOL_CAPACITY_AT) as u64;
+    if sum_exceeds(read_number(image, POOL_USED_AT) as u64, form.length, pool) {
         return Entered::Refused(refuse(NO_POOL_ROOM, pool));
     }
-    let journal = read_number(image, JOURNAL_CAPACITY);
-    if journal <= read_number(image, JOURNAL_COUNT) {
+    let journal = read_number(image, JOURNAL_CAPACITY_AT);
+    if journal <= read_number(image, JOURNAL_COUNT_AT) {
         return Entered::Refused(refuse(NO_JOURNAL_ROOM, journal as u64));
     }
     number_form(image, form, a, b, c);

@@ -6,7 +6,7 @@ use mathlib.Core.Bool.{true}
 use mathlib.Core.List.{List}
 use lib.ListN.{length}
 use Rattle.image.specs.Numbers.{number, put}
-use Rattle.image.specs.Fields.{headerSize, recordSize, entrySize, countLimit, issued, journalAt, journalCount, journalCountPlace, statusOf}
+use Rattle.image.specs.Fields.{headerSize, recordSize, entrySize, countLimit, issued, journalOffset, journalCount, journalCountPlace, statusOf}
 use Rattle.image.specs.Formed.{wellFormed}
 use Rattle.image.specs.Header.{Header}
 use Rattle.image.proofs.WellFormed.{formed}
@@ -16,7 +16,7 @@ use Rattle.changes.specs.Changes.{marked, latest, undone}
 pub issued-room : (b : List ℕ) → Header b → (n : ℕ) → n ≤ issued b → (n ≤ countLimit) × (headerSize + recordSize * n ≤ length b)
 issued-room b h n l = (omega (arith, h .records, h .records-limit), omega (arith, h .records, h .pool, h .whole))
 
-module _ (b : List ℕ) (w : wellFormed b ≡ true) (count at n : ℕ) (e : count ≡ journalCount b) (some : count ≡ 0 → ⊥) (a : at ≡ journalAt b)
+module _ (b : List ℕ) (w : wellFormed b ≡ true) (count at n : ℕ) (e : count ≡ journalCount b) (some : count ≡ 0 → ⊥) (a : at ≡ journalOffset b)
     (i : n ≡ number b (at + entrySize * (count - 1))) where
   pub latest-read : n ≡ latest b
   unfolding latest
@@ -25,7 +25,7 @@ module _ (b : List ℕ) (w : wellFormed b ≡ true) (count at n : ℕ) (e : coun
   pub latest-issued : (1 ≤ n) × (n ≤ issued b)
   latest-issued =
       let f = formed b w .entries (count - 1) (omega arith) in
-      let at-last : n ≡ number b (journalAt b + entrySize * (count - 1)) = i ∙ rw a in
+      let at-last : n ≡ number b (journalOffset b + entrySize * (count - 1)) = i ∙ rw a in
       (omega (arith, f .some, at-last), omega (arith, f .numbered, at-last))
 
   pub latest-undone : put (marked b n (1 - statusOf b n)) journalCountPlace (count - 1) ≡ undone b

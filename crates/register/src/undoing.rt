@@ -4,8 +4,8 @@ use changes::mark;
 use image::ACTIVE;
 use image::ENTRY_SIZE;
 use image::INACTIVE;
-use image::JOURNAL_AT;
-use image::JOURNAL_COUNT;
+use image::JOURNAL_COUNT_AT;
+use image::JOURNAL_OFFSET_AT;
 use image::put_number;
 use image::read_number;
 use image::status_of;
@@ -36,15 +36,15 @@ fn undo_latest(image: &mut [u8]) -> Undone
     requires { ⌜ wellFormed (now image) ≡ true ⌝ }
     ensures { λ r. ⌜ Undoes (now (image .entry)) r (now (image .exit)) ⌝ }
 {
-    let count = read_number(image, JOURNAL_COUNT);
+    let count = read_number(image, JOURNAL_COUNT_AT);
     if count == 0 {
         return Undone::Refused(refuse(NOTHING_TO_UNDO, 0));
     }
-    let journal = read_number(image, JOURNAL_AT);
+    let journal = read_number(image, JOURNAL_OFFSET_AT);
     let number = read_number(image, journal + ENTRY_SIZE * (count - 1));
     let status = status_of(image, number);
     mark(image, number, flipped(status));
-    put_number(image, JOURNAL_COUNT, count - 1);
+    put_number(image, JOURNAL_COUNT_AT, count - 1);
     Undone::Number(number as u64)
 }
 
@@ -65,6 +65,6 @@ pub fn seal(image: &mut [u8]) -> Outcome
     if !well_formed(image) {
         return Outcome::Refused(refuse(IMAGE_NOT_WELL_FORMED, 0));
     }
-    put_number(image, JOURNAL_COUNT, 0);
+    put_number(image, JOURNAL_COUNT_AT, 0);
     Outcome::Accepted
 }

@@ -2,9 +2,9 @@
 use changes::change;
 use image::ACTIVE;
 use image::INACTIVE;
-use image::ISSUED;
-use image::JOURNAL_CAPACITY;
-use image::JOURNAL_COUNT;
+use image::ISSUED_AT;
+use image::JOURNAL_CAPACITY_AT;
+use image::JOURNAL_COUNT_AT;
 use image::read_number;
 use image::status_of;
 use image::well_formed;
@@ -26,7 +26,7 @@ fn withdraw_number(image: &mut [u8], number: u64) -> Outcome
     requires { ⌜ wellFormed (now image) ≡ true ⌝ }
     ensures { λ r. ⌜ Withdraws (now (image .entry)) number r (now (image .exit)) ⌝ }
 {
-    let issued = read_number(image, ISSUED) as u64;
+    let issued = read_number(image, ISSUED_AT) as u64;
     if number == 0 {
         return Outcome::Refused(refuse(NO_SUCH_NUMBER, issued));
     }
@@ -37,8 +37,8 @@ fn withdraw_number(image: &mut [u8], number: u64) -> Outcome
     if status_of(image, i) != ACTIVE {
         return Outcome::Refused(refuse(NOT_ACTIVE, number));
     }
-    let capacity = read_number(image, JOURNAL_CAPACITY);
-    if capacity <= read_number(image, JOURNAL_COUNT) {
+    let capacity = read_number(image, JOURNAL_CAPACITY_AT);
+    if capacity <= read_number(image, JOURNAL_COUNT_AT) {
         return Outcome::Refused(refuse(NO_JOURNAL_ROOM, capacity as u64));
     }
     change(image, i, INACTIVE);

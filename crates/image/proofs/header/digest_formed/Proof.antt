@@ -3,7 +3,7 @@ use borrow.Author.Needs.{needs}
 use native.Mathlib.Omega.{arith}
 use Rattle.stretch.proofs.Interval.{length-part}
 use Rattle.letters.specs.Letters.{base64url}
-use Rattle.image.specs.Fields.{sequenceDigest}
+use Rattle.image.specs.Fields.{headerSize, digestPlace, sequenceDigest}
 use Rattle.image.proofs.Tests.{outside-end}
 use Rattle.image.proofs.header.digest_formed.Statement.{statement}
 use Rattle.image.proofs.header.digest_formed.Tie as tie
@@ -26,7 +26,7 @@ sub-result c = search needs
 returns : tie.Need-returns
 returns c =
     let b = c .before .before .before .args .image .now in
-    rw (c .first-outside-base64url .ensures) (outside-end base64url (sequenceDigest b) 32 (length-part b 44 76 (omega arith) (omega arith)))
+    rw (c .first-outside-base64url .ensures) (outside-end base64url (sequenceDigest b) 32 (length-part b digestPlace headerSize (omega arith) (omega arith)))
 
 pub digest-formed-spec : {M : Type 1} → statement M
 digest-formed-spec =

@@ -4,8 +4,8 @@ use Prim.Native.Nat.{_+_}
 use lib.Dec.{leb}
 use lib.ListN.{length}
 use Rattle.stretch.specs.Class.{every}
-use Rattle.letters.specs.Letters.{base64url}
-use Rattle.image.specs.Fields.{poolAt, poolCapacity, sequenceDigest}
+use Rattle.letters.specs.Letters.{base64url, every}
+use Rattle.image.specs.Fields.{poolAt, poolCapacity, sequenceDigest, poolOffset}
 use Rattle.image.specs.Formed.{laidOut, countsWithin, withinLimits}
 use Rattle.image.proofs.Tests.{all-five}
 use Rattle.image.proofs.header.header_formed.Statement.{statement}
@@ -36,7 +36,7 @@ returns c =
       c .before .digest-formed .ensures,
       c .has-room .ensures,
     )
-    (all-five (laidOut b) (countsWithin b) (withinLimits b) (every base64url (sequenceDigest b)) (leb (poolAt b + poolCapacity b) (length b)))
+    (all-five (laidOut b) (countsWithin b) (withinLimits b) (every base64url (sequenceDigest b)) (leb (poolOffset b + poolCapacity b) (length b)))
 
 pub header-formed-spec : {M : Type 1} → statement M
 header-formed-spec =

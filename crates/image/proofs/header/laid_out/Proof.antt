@@ -1,7 +1,7 @@
 -- The definition's tests, of the numbers that were read.
 use borrow.Author.Needs.{needs}
 use lib.Dec.{eqb}
-use Rattle.image.specs.Fields.{headerSize, journalPlace, poolPlace, edition, recordCapacity, recordsAt, journalCapacity, journalAt, poolAt}
+use Rattle.image.specs.Fields.{headerSize, firstEdition, journalPlace, poolPlace, edition, recordCapacity, recordsOffset, journalCapacity, journalOffset, poolOffset}
 use Rattle.image.specs.Formed.{laidOut}
 use Rattle.image.proofs.Tests.{all-four}
 use Rattle.image.proofs.header.laid_out.Statement.{statement}
@@ -49,8 +49,8 @@ returns c =
       c .before .read-number5 .ensures .0,
       c .read-number6 .ensures .0,
     )
-    (all-four (eqb (edition b) 1) (eqb (recordsAt b) headerSize) (eqb (journalAt b) (journalPlace (recordCapacity b)))
-    (eqb (poolAt b) (poolPlace (recordCapacity b) (journalCapacity b))))
+    (all-four (eqb (edition b) firstEdition) (eqb (recordsOffset b) headerSize) (eqb (journalOffset b) (journalPlace (recordCapacity b)))
+    (eqb (poolOffset b) (poolPlace (recordCapacity b) (journalCapacity b))))
 
 pub laid-out-spec : {M : Type 1} → statement M
 laid-out-spec =

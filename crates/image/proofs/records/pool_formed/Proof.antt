@@ -9,7 +9,7 @@ use borrow.Author.Tests.{eq-eqb, ne-eqb}
 use Rattle.stretch.specs.Part.{part}
 use Rattle.stretch.proofs.Interval.{length-part}
 use Rattle.letters.specs.Letters.{residue}
-use Rattle.image.specs.Fields.{poolAt, poolUsed}
+use Rattle.image.specs.Fields.{poolOffset, poolUsed}
 use Rattle.image.proofs.Tests.{outside-end}
 use Rattle.image.proofs.records.pool_formed.Statement.{statement}
 use Rattle.image.proofs.records.pool_formed.Tie as tie
@@ -43,7 +43,7 @@ returns-2 c =
     let s = c .before .before .before .before .before .before in
     let b = s .args .image .now in
     let n = s .args .letters in
-    let at = poolAt b in
+    let at = poolOffset b in
     let used : n ≡ poolUsed b = c .before .before .before .if1 .left ∙ c .before .before .before .before .read-number .ensures .0 in
     let long : length (part b at (at + n)) ≡ n = length-part b at (at + n) (omega arith) (omega (arith, s .pre)) ∙ add-sub-cancel-left at n in
     rw (eq-eqb _ _ used, c .first-foreign .ensures, c .before .before .read-number2 .ensures .0) (outside-end residue (part b at (at + n)) n long)

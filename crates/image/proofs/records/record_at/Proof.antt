@@ -2,7 +2,7 @@
 use borrow.Author.Needs.{needs}
 use native.Mathlib.Omega.{arith}
 use mathlib.Core.Path.{refl}
-use Rattle.image.specs.Fields.{recordAt}
+use Rattle.image.specs.Fields.{recordPlace}
 use Rattle.image.proofs.records.record_at.Statement.{statement}
 use Rattle.image.proofs.records.record_at.Tie as tie
 
@@ -16,7 +16,7 @@ add-result : tie.Need-add-result
 add-result c = search needs
 
 returns : tie.Need-returns
-unfolding recordAt
+unfolding recordPlace
 returns c = (refl, omega arith)
 
 pub record-at-spec : {M : Type 1} → statement M

@@ -3,6 +3,7 @@ use borrow.Author.Needs.{needs}
 use Prim.Native.Nat.{_+_}
 use lib.Dec.{leb, eqb}
 use Rattle.image.specs.Numbers.{number}
+use Rattle.image.specs.Fields.{endInRecord, offsetInRecord, statusInRecord, active}
 use Rattle.image.proofs.Tests.{all-four}
 use Rattle.image.proofs.records.record_placed.Statement.{statement}
 use Rattle.image.proofs.records.record_placed.Tie as tie
@@ -32,14 +33,14 @@ returns : tie.Need-returns
 returns c =
     let s = c .before .before .before .before .before .args in
     let b = s .image .now in
-    let end = number b (s .at + 4) in
+    let end = number b (s .at + endInRecord) in
     rw (
       c .before .before .before .read-number .ensures .0,
       c .before .before .read-number2 .ensures .0,
       c .before .read-number3 .ensures .0,
       c .read-number4 .ensures .0,
     )
-    (all-four (leb (number b (s .at)) end) (leb end (s .reference)) (leb (number b (s .at + 16)) 1) (eqb (number b (s .at + 8)) (s .before)))
+    (all-four (leb (number b (s .at)) end) (leb end (s .reference)) (leb (number b (s .at + statusInRecord)) active) (eqb (number b (s .at + offsetInRecord)) (s .before)))
 
 pub record-placed-spec : {M : Type 1} → statement M
 record-placed-spec =
