@@ -11,7 +11,7 @@ use Rattle.normal.specs.Form.{altered, shorter, within, ahead, behind, kindIn, 
 use Rattle.forming.specs.Calls.{formGrounds}
 use Rattle.image.specs.Numbers.{little, bytes, number, numbers, put}
 use Rattle.image.specs.Fields.{headerOf, recordPlace, recordOf, replacementOf}
-use Rattle.image.specs.Formed.{laidOut, countsWithin, withinLimits, lengths, recordGood, entryGood, wellFormed}
+use Rattle.image.specs.Formed.{laidOut, countsWithin, withinLimits, headerFormed, lengths, recordGood, entryGood, wellFormed}
 use Rattle.numbering.specs.declared.Entered.the-variants.{New, Again, Known}
 use Rattle.register.specs.declared.Undone.the-variants.{Number}
 use Rattle.lookup.specs.Lookup.{holds, lowest, lowestHolding}
@@ -31,7 +31,7 @@ unfolding below lcp lcs over same
     altered shorter within ahead behind kindIn kindOf changedForm normal formGrounds
     little bytes number numbers put
     headerOf recordPlace recordOf replacementOf
-    laidOut countsWithin withinLimits lengths recordGood entryGood wellFormed
+    laidOut countsWithin withinLimits headerFormed lengths recordGood entryGood wellFormed
     holds lowest lowestHolding found
     blanked journalled marked withdrawn reentered recorded pooled counted numbered latest undone sealed
     blankGrounds imageGrounds changeGrounds entryGrounds Enters

@@ -1,8 +1,8 @@
 -- The tests of well-formedness in the order of the code, and what the header's say where they pass.
-use Prim.Native.Nat.{ℕ, _+_}
+use Prim.Native.Nat.{ℕ}
 use mathlib.Core.Path.{_≡_}
 use mathlib.Core.Bool.{Bool, true, false, cond}
-use mathlib.Core.List.{List, [], _∷_, _++_}
+use mathlib.Core.List.{List, [], _∷_}
 use lib.Dec.{leb, eqb}
 use lib.ListN.{length}
 use borrow.Author.Tests.{leb-true, eqb-true}
@@ -10,39 +10,29 @@ use Rattle.stretch.specs.Below.{below}
 use Rattle.stretch.specs.Class.{every}
 use Rattle.letters.specs.Letters.{base64url, every}
 use Rattle.image.specs.Fields.{headerSize, edition, issued, recordsAt, journalCount, poolCapacity, poolUsed, poolAt, sequenceDigest, firstEdition, recordsOffset, poolOffset}
-use Rattle.image.specs.Formed.{all, laidOut, countsWithin, withinLimits, lengths, recordGood, entryGood, wellFormed}
+use Rattle.image.specs.Formed.{all, laidOut, countsWithin, withinLimits, lengths, recordGood, entryGood, wellFormed, headerFormed}
 use Rattle.image.specs.Header.{Header}
 use Rattle.image.proofs.Tests.{all-append, all-one, both, last}
-
-abbrev pub headTests : List ℕ → List Bool
-headTests b =
-    laidOut b
-    ∷ countsWithin b
-    ∷ withinLimits b
-    ∷ every base64url (sequenceDigest b)
-    ∷ leb (poolOffset b + poolCapacity b) (length b)
-    ∷ []
 
 abbrev recordTests : List ℕ → List Bool
 recordTests b = below (recordGood b) (issued b) ∷ eqb (lengths b (issued b)) (poolUsed b) ∷ []
 
--- the tests in the order of the code: the bytes of a header, the header, the records and their residues, the journal
+-- the tests in the order of the code: the header, the records and their residues, the journal
 pub formed-steps : (b : List ℕ)
     → wellFormed b
-    ≡ cond (leb headerSize (length b))
-    (cond (all (headTests b))
-    (cond (cond (below (recordGood b) (issued b)) (eqb (lengths b (issued b)) (poolUsed b)) false) (below (entryGood b) (journalCount b)) false) false)
+    ≡ cond (headerFormed b)
+    (cond (cond (below (recordGood b) (issued b)) (eqb (lengths b (issued b)) (poolUsed b)) false)
+    (below (entryGood b) (journalCount b)) false)
     false
 unfolding wellFormed
 formed-steps b =
     let entries = below (entryGood b) (journalCount b) in
-    rw (all-append (headTests b) (recordTests b ++ (entries ∷ [])), all-append (recordTests b) (entries ∷ []))
-    (rw (all-one entries, all-one (eqb (lengths b (issued b)) (poolUsed b))))
+    rw (all-append (recordTests b) (entries ∷ [])) (rw (all-one entries, all-one (eqb (lengths b (issued b)) (poolUsed b))))
 
-pub header-tested : (b : List ℕ) → all (headTests b) ≡ true → Header b
-unfolding laidOut countsWithin withinLimits
+pub header-tested : (b : List ℕ) → headerFormed b ≡ true → Header b
+unfolding headerFormed laidOut countsWithin withinLimits
 header-tested b h =
-    let laid = both (laidOut b) _ h in
+    let laid = both (laidOut b) _ (both (leb headerSize (length b)) _ h .1) in
     let counts = both _ _ (laid .1) in
     let limits = both _ _ (counts .1) in
     let digest = both (every base64url (sequenceDigest b)) _ (limits .1) in

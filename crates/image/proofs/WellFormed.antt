@@ -11,7 +11,7 @@ use Rattle.stretch.proofs.Below.{below-at, below-all}
 use Rattle.stretch.specs.Class.{every}
 use Rattle.letters.specs.Letters.{residue, base64url, every}
 use Rattle.image.specs.Fields.{headerSize, edition, issued, recordsAt, journalCount, poolUsed, referenceLength, sequenceDigest, startOf, endOf, offsetOf, statusOf, replacementOf, entryOf, firstEdition, active, recordsOffset}
-use Rattle.image.specs.Formed.{laidOut, countsWithin, withinLimits, lengths, recordGood, entryGood, wellFormed}
+use Rattle.image.specs.Formed.{laidOut, countsWithin, withinLimits, lengths, recordGood, entryGood, wellFormed, headerFormed}
 use Rattle.image.specs.Header.{Header}
 use Rattle.image.proofs.Tests.{both, last}
 use Rattle.image.proofs.Tested.{formed-steps, header-tested}
@@ -70,12 +70,12 @@ module _ (b : List ℕ) where
   entry-good j e = rw (le-leb _ _ (e .some), le-leb _ _ (e .numbered))
 
   pub formed : wellFormed b ≡ true → Formed b
-  unfolding laidOut
+  unfolding laidOut headerFormed
   formed h =
-      let header = both _ _ (both (leb headerSize (length b)) _ (rw (formed-steps b) at h) .1) in
-      let behind = both _ _ (header .1) in
-      let records = both _ _ (behind .0) in
-      let laid = both (laidOut b) _ (header .0) in
+      let header = both (headerFormed b) _ (rw (formed-steps b) at h) in
+      let rest = both _ _ (header .1) in
+      let records = both _ _ (rest .0) in
+      let laid = both (laidOut b) _ (both (leb headerSize (length b)) _ (header .0) .1) in
       let edition = both _ _ (laid .0) in
       let records-at = both _ _ (edition .1) in
       let counts = both (countsWithin b) _ (laid .1) in
@@ -88,7 +88,7 @@ module _ (b : List ℕ) where
         digest = digest .0;
         records = λ k l. record-facts k (below-at (recordGood b) (issued b) (records .0) k l);
         used = eqb-true _ _ (records .1);
-        entries = λ j l. entry-facts j (below-at (entryGood b) (journalCount b) (behind .1) j l);
+        entries = λ j l. entry-facts j (below-at (entryGood b) (journalCount b) (rest .1) j l);
       }
 
   laid-out : Formed b → laidOut b ≡ true
@@ -106,11 +106,15 @@ module _ (b : List ℕ) where
       let h = f .header in
       rw (le-leb _ _ (h .records-limit), le-leb _ _ (h .journal-limit), le-leb _ _ (h .pool-limit), le-leb _ _ (h .reference-limit))
 
-  pub well-formed : Formed b → wellFormed b ≡ true
-  unfolding wellFormed
-  well-formed f =
+  header-formed : Formed b → headerFormed b ≡ true
+  unfolding headerFormed
+  header-formed f =
       let h = f .header in
       let long : headerSize ≤ length b = omega (arith, h .pool, h .whole) in
       rw (le-leb _ _ long, laid-out f, counts-within f, within-limits f, f .digest, le-leb _ _ (h .whole))
-      (rw (below-all (recordGood b) (issued b) (λ k l. record-good k (f .records k l)), eq-eqb _ _ (f .used))
-      (rw (below-all (entryGood b) (journalCount b) (λ j l. entry-good j (f .entries j l)))))
+
+  pub well-formed : Formed b → wellFormed b ≡ true
+  unfolding wellFormed
+  well-formed f =
+      rw (header-formed f, below-all (recordGood b) (issued b) (λ k l. record-good k (f .records k l)), eq-eqb _ _ (f .used))
+      (rw (below-all (entryGood b) (journalCount b) (λ j l. entry-good j (f .entries j l))))

@@ -42,6 +42,20 @@ withinLimits b =
     ∷ []
     )
 
+-- the header: the buffer holds one, it passes these tests, its digest is in the alphabet, and the buffer is at least
+-- pool offset + P
+unfoldable pub headerFormed : List ℕ → Bool
+headerFormed b =
+    all (
+    leb headerSize (length b)
+    ∷ laidOut b
+    ∷ countsWithin b
+    ∷ withinLimits b
+    ∷ every base64url (sequenceDigest b)
+    ∷ leb (poolOffset b + poolCapacity b) (length b)
+    ∷ []
+    )
+
 -- the lengths of the first k records together
 unfoldable pub lengths : List ℕ → ℕ → ℕ
 lengths b zero = 0
@@ -63,16 +77,11 @@ recordGood b k =
 unfoldable pub entryGood : List ℕ → ℕ → Bool
 entryGood b j = all (leb 1 (entryOf b j) ∷ leb (entryOf b j) (issued b) ∷ [])
 
--- all of it, and that the buffer holds a header and is at least pool offset + P
+-- all of it: the header, by which the rest is read, the issued records, their lengths in all, the journal
 unfoldable pub wellFormed : List ℕ → Bool
 wellFormed b =
     all (
-    leb headerSize (length b)
-    ∷ laidOut b
-    ∷ countsWithin b
-    ∷ withinLimits b
-    ∷ every base64url (sequenceDigest b)
-    ∷ leb (poolOffset b + poolCapacity b) (length b)
+    headerFormed b
     ∷ below (recordGood b) (issued b)
     ∷ eqb (lengths b (issued b)) (poolUsed b)
     ∷ below (entryGood b) (journalCount b)

@@ -1,6 +1,5 @@
 // The test of well-formedness.
 use super::ENTRY_SIZE;
-use super::HEADER_SIZE;
 use super::ISSUED_AT;
 use super::JOURNAL_COUNT_AT;
 use super::JOURNAL_OFFSET_AT;
@@ -43,9 +42,6 @@ fn journal_formed(image: &[u8]) -> bool
 pub fn well_formed(image: &[u8]) -> bool
     ensures { λ r. ⌜ r ≡ wellFormed (now (image .entry)) ⌝ }
 {
-    if image.len() < HEADER_SIZE {
-        return false;
-    }
     if !header_formed(image) {
         return false;
     }

@@ -20,14 +20,13 @@ use super::REFERENCE_LENGTH_AT;
 use super::number::read_number;
 use letters::first_outside_base64url;
 ghost use mathlib.Core.Path.{_≡_};
-ghost use mathlib.Core.List.{[], _∷_};
 ghost use Prim.Native.Nat.{_+_, _≤_};
 ghost use lib.Dec.{leb};
 ghost use lib.ListN.{length};
 ghost use Rattle.stretch.specs.Class.{every};
 ghost use Rattle.letters.specs.Letters.{base64url, every};
 ghost use Rattle.image.specs.Fields.{headerSize, poolAt, poolCapacity, sequenceDigest, poolOffset};
-ghost use Rattle.image.specs.Formed.{all, laidOut, countsWithin, withinLimits};
+ghost use Rattle.image.specs.Formed.{all, laidOut, countsWithin, withinLimits, headerFormed};
 
 const REFERENCE_LIMIT: usize = refusal::REFERENCE_LIMIT as usize;
 
@@ -78,19 +77,23 @@ fn has_room(image: &[u8]) -> bool
     read_number(image, POOL_OFFSET_AT) + read_number(image, POOL_CAPACITY_AT) <= image.len()
 }
 
-pub fn header_formed(image: &[u8]) -> bool
+fn fields_formed(image: &[u8]) -> bool
     requires { ⌜ headerSize ≤ length (now image) ⌝ }
-    ensures { λ r. ⌜ r ≡ all (
-        laidOut (now (image .entry))
-        ∷ countsWithin (now (image .entry))
-        ∷ withinLimits (now (image .entry))
-        ∷ every base64url (sequenceDigest (now (image .entry)))
-        ∷ leb (poolOffset (now (image .entry)) + poolCapacity (now (image .entry))) (length (now (image .entry)))
-        ∷ []) ⌝ }
+    ensures { λ r. ⌜ r ≡ headerFormed (now (image .entry)) ⌝ }
 {
     laid_out(image)
         & counts_within(image)
         & within_limits(image)
         & digest_formed(image)
         & has_room(image)
+}
+
+// Whether an image has a header by which the rest can be read.
+pub fn header_formed(image: &[u8]) -> bool
+    ensures { λ r. ⌜ r ≡ headerFormed (now (image .entry)) ⌝ }
+{
+    if image.len() < HEADER_SIZE {
+        return false;
+    }
+    fields_formed(image)
 }

@@ -10,6 +10,7 @@ mod number;
 mod records;
 
 pub use formed::well_formed;
+pub use header::header_formed;
 pub use number::put_number;
 pub use number::read_number;
 pub use records::record_at;
