@@ -1,5 +1,6 @@
 -- The answers of the tests of a blank image, one behind the other, and what an accepted one tells of its arguments.
 use Prim.Native.Nat.{ℕ, _≤_}
+use native.Mathlib.Omega.{arith}
 use mathlib.Core.Path.{_≡_}
 use mathlib.Core.Bool.{true, false}
 use mathlib.Core.List.{List, [], _∷_, _++_}
@@ -14,7 +15,8 @@ use Rattle.refusal.proofs.Verdict.{none-holds, verdict-first, verdict-then, ver
 use Rattle.stretch.specs.Class.{every}
 use Rattle.letters.specs.Letters.{base64url, digestTextGrounds, digestTextAnswer}
 use Rattle.letters.proofs.DigestText.{digest-long, digest-all}
-use Rattle.image.specs.Fields.{countLimit, poolLimit, imageSize}
+use Rattle.image.specs.Fields.{headerSize, countLimit, poolLimit, imageSize}
+use Rattle.image.proofs.Arranged.{header-journal, journal-pool}
 use Rattle.blank.specs.Calls.{capacityGrounds, blankGrounds}
 use Rattle.blank.specs.Inner.{capacityAnswer, blankAnswer}
 
@@ -39,6 +41,7 @@ pub record Blankable (room n : ℕ) (digest : List ℕ) (records journal pool : 
   pub journal-limit : journal ≤ countLimit
   pub pool-limit : pool ≤ poolLimit
   pub fits : imageSize records journal pool ≤ room
+  pub headed : headerSize ≤ room
 
 pub blankable : (room n : ℕ) (digest : List ℕ) (records journal pool : ℕ) → verdict (blankGrounds room n digest records journal pool) ≡ accepted
     → Blankable room n digest records journal pool
@@ -50,6 +53,7 @@ blankable room n digest records journal pool v =
     let rest = verdict-later one (seven ++ nine) v in
     let text = verdict-fewer seven nine rest in
     let last = verdict-later seven nine rest in
+    let fits = ltb-false room (imageSize records journal pool) (none-holds nine last 3) in
     record {
       reference = ltb-false referenceLimit n (none-holds one (verdict-fewer one (seven ++ nine) v) 0);
       long = digest-long digest text;
@@ -57,5 +61,6 @@ blankable room n digest records journal pool v =
       records-limit = ltb-false countLimit records (none-holds nine last 0);
       journal-limit = ltb-false countLimit journal (none-holds nine last 1);
       pool-limit = ltb-false poolLimit pool (none-holds nine last 2);
-      fits = ltb-false room (imageSize records journal pool) (none-holds nine last 3);
+      fits = fits;
+      headed = omega (arith, fits, header-journal records, journal-pool records journal);
     }

@@ -2,15 +2,16 @@
 use changes::put_four;
 use image::COUNT_LIMIT;
 use image::DIGEST_AT;
-use image::ENTRY_SIZE;
+use image::EDITION_AT;
 use image::FIRST_EDITION;
 use image::HEADER_SIZE;
 use image::JOURNAL_CAPACITY_AT;
 use image::POOL_LIMIT;
 use image::POOL_OFFSET_AT;
 use image::POOL_USED_AT;
-use image::RECORD_SIZE;
 use image::REFERENCE_LENGTH_AT;
+use image::journal_at;
+use image::pool_at;
 use image::put_number;
 use letters::check_digest_text;
 use refusal::NO_ROOM_FOR_IMAGE;
@@ -40,10 +41,7 @@ fn check_capacities(room: u64, records: u64, journal: u64, pool: u64) -> Outcome
     if (POOL_LIMIT as u64) < pool {
         return Outcome::Refused(refuse(NO_ROOM_FOR_IMAGE, 0));
     }
-    let size = HEADER_SIZE as u64
-        + RECORD_SIZE as u64 * records
-        + ENTRY_SIZE as u64 * journal
-        + pool;
+    let size = pool_at(records as usize, journal as usize) as u64 + pool;
     if room < size {
         return Outcome::Refused(refuse(NO_ROOM_FOR_IMAGE, size));
     }
@@ -82,12 +80,17 @@ fn write_header(
     requires { ⌜ (records ≤ countLimit) × (journal ≤ countLimit) ⌝ }
     ensures { λ _. ⌜ now (image .exit) ≡ blanked (now (image .entry)) residues (now (digest .entry)) records journal pool ⌝ }
 {
-    let journal_at = HEADER_SIZE + RECORD_SIZE * records;
-    let pool_at = journal_at + ENTRY_SIZE * journal;
-    put_four(image, 0, FIRST_EDITION, records, 0, HEADER_SIZE);
-    put_four(image, JOURNAL_CAPACITY_AT, journal, 0, journal_at, pool);
+    put_four(image, EDITION_AT, FIRST_EDITION, records, 0, HEADER_SIZE);
+    put_four(
+        image,
+        JOURNAL_CAPACITY_AT,
+        journal,
+        0,
+        journal_at(records),
+        pool,
+    );
     put_number(image, POOL_USED_AT, 0);
-    put_number(image, POOL_OFFSET_AT, pool_at);
+    put_number(image, POOL_OFFSET_AT, pool_at(records, journal));
     put_number(image, REFERENCE_LENGTH_AT, residues);
     copy_at(image, DIGEST_AT, digest);
 }

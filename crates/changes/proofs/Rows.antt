@@ -9,7 +9,10 @@ use Rattle.stretch.proofs.Join.{length-three}
 use Rattle.stretch.proofs.Over.{over-next, over-tail}
 use Rattle.forming.specs.declared.Form.{Form}
 use Rattle.image.specs.Numbers.{numbers, put, bytes}
-use Rattle.image.specs.Fields.{headerSize, firstEdition, journalCapacityPlace, poolOffsetPlace, referenceLengthPlace, digestPlace, entrySize, journalPlace, poolPlace, issued, issuedPlace, journalOffset, journalCount, journalCountPlace, poolOffset, poolUsed, poolUsedPlace, headerOf, recordPlace, recordOf, active}
+use Rattle.image.specs.Fields.{headerSize, firstEdition, journalCapacityPlace, poolOffsetPlace, referenceLengthPlace}
+use Rattle.image.specs.Fields.{digestPlace, entrySize, journalPlace, poolPlace, issued, issuedPlace, journalOffset}
+use Rattle.image.specs.Fields.{journalCount, journalCountPlace, poolOffset, poolUsed, poolUsedPlace, headerOf}
+use Rattle.image.specs.Fields.{recordPlace, recordOf, active}
 use Rattle.image.proofs.Patched.{length-numbers}
 use Rattle.image.proofs.Numbers.{length-bytes}
 use Rattle.changes.specs.Changes.{blanked, journalled, recorded, pooled, counted, numbered}
@@ -50,23 +53,30 @@ put-tail l at k v h = over-tail l at k (bytes 4 v) (rw (length-bytes 4 v) h)
 pub header-laid : (l : List ℕ) (n : ℕ) (digest : List ℕ) (records journal pool journal-at pool-at : ℕ) → headerSize ≤ length l
     → journal-at ≡ journalPlace records → pool-at ≡ poolPlace records journal
     → over (put (put (put (over (over l 0 (numbers (firstEdition ∷ records ∷ 0 ∷ headerSize ∷ []))) journalCapacityPlace
-    (numbers (journal ∷ 0 ∷ journal-at ∷ pool ∷ []))) poolUsedPlace 0) poolOffsetPlace pool-at) referenceLengthPlace n) digestPlace digest
+    (numbers (journal ∷ 0 ∷ journal-at ∷ pool ∷ []))) poolUsedPlace 0) poolOffsetPlace pool-at)
+    referenceLengthPlace n) digestPlace digest
     ≡ blanked l n digest records journal pool
 unfolding blanked headerOf
 header-laid l n digest records journal pool journal-at pool-at h e₁ e₂ =
     let eight : List ℕ = firstEdition ∷ records ∷ 0 ∷ headerSize ∷ journal ∷ 0 ∷ journal-at ∷ pool ∷ [] in
     let room : 0 ≤ length l = omega arith in
     ap (λ (m : List ℕ). over (put (put (put m poolUsedPlace 0) poolOffsetPlace pool-at) referenceLengthPlace n) digestPlace digest)
-    (over-numbers l 0 room (firstEdition ∷ records ∷ 0 ∷ headerSize ∷ []) journalCapacityPlace refl (journal ∷ 0 ∷ journal-at ∷ pool ∷ []))
-    ∙ ap (λ (m : List ℕ). over (put (put m poolOffsetPlace pool-at) referenceLengthPlace n) digestPlace digest) (put-next l 0 room eight poolUsedPlace refl 0)
-    ∙ ap (λ (m : List ℕ). over (put m referenceLengthPlace n) digestPlace digest) (put-next l 0 room (eight ++ (0 ∷ [])) poolOffsetPlace refl pool-at)
-    ∙ ap (λ (m : List ℕ). over m digestPlace digest) (put-next l 0 room (eight ++ (0 ∷ pool-at ∷ [])) referenceLengthPlace refl n)
-    ∙ over-next l 0 digestPlace (numbers (eight ++ (0 ∷ pool-at ∷ n ∷ []))) digest room (omega (arith, length-numbers (eight ++ (0 ∷ pool-at ∷ n ∷ []))))
+    (over-numbers l 0 room (firstEdition ∷ records ∷ 0 ∷ headerSize ∷ []) journalCapacityPlace refl
+    (journal ∷ 0 ∷ journal-at ∷ pool ∷ []))
+    ∙ ap (λ (m : List ℕ). over (put (put m poolOffsetPlace pool-at) referenceLengthPlace n) digestPlace digest)
+    (put-next l 0 room eight poolUsedPlace refl 0)
+    ∙ ap (λ (m : List ℕ). over (put m referenceLengthPlace n) digestPlace digest)
+    (put-next l 0 room (eight ++ (0 ∷ [])) poolOffsetPlace refl pool-at)
+    ∙ ap (λ (m : List ℕ). over m digestPlace digest)
+    (put-next l 0 room (eight ++ (0 ∷ pool-at ∷ [])) referenceLengthPlace refl n)
+    ∙ over-next l 0 digestPlace (numbers (eight ++ (0 ∷ pool-at ∷ n ∷ []))) digest room
+    (omega (arith, length-numbers (eight ++ (0 ∷ pool-at ∷ n ∷ []))))
     ∙ rw (e₁, e₂)
 
 -- the writes of a new number
 pub numbered-as : (b : List ℕ) (f : Form) (x y z : List ℕ) (n used pool at count place : ℕ) → f .length ≡ length x + (length y + length z)
-    → n ≡ issued b + 1 → used ≡ poolUsed b → pool ≡ poolOffset b → at ≡ journalOffset b → count ≡ journalCount b → place ≡ recordPlace n
+    → n ≡ issued b + 1 → used ≡ poolUsed b → pool ≡ poolOffset b → at ≡ journalOffset b → count ≡ journalCount b
+    → place ≡ recordPlace n
     → put (put (put (put (over (over b place (recordOf (f .start) (f .end) used (f .length) active)) (pool + used)
     (x ++ (y ++ z))) issuedPlace n) poolUsedPlace (used + f .length)) (at + entrySize * count) n) journalCountPlace (count + 1)
     ≡ numbered b (asked f x y z)

@@ -5,7 +5,9 @@ use lib.ListN.{length}
 use Rattle.stretch.specs.Over.{over}
 use Rattle.normal.specs.Form.{Normal}
 use Rattle.image.specs.Numbers.{put}
-use Rattle.image.specs.Fields.{issued, issuedPlace, journalCount, journalCountPlace, poolOffset, poolUsed, poolUsedPlace, recordPlace, recordOf, statusPlace, statusOf, active, inactive, entryPlace, entryOf, headerOf}
+use Rattle.image.specs.Fields.{issued, issuedPlace, journalCount, journalCountPlace, poolOffset, poolUsed}
+use Rattle.image.specs.Fields.{poolUsedPlace, recordPlace, recordOf, statusPlace, statusOf, active, inactive}
+use Rattle.image.specs.Fields.{entryPlace, entryOf, headerOf}
 
 -- blank: the header, and nothing else
 unfoldable pub blanked : List ℕ → ℕ → List ℕ → ℕ → ℕ → ℕ → List ℕ

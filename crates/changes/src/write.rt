@@ -18,7 +18,9 @@ ghost use Prim.Native.Nat.{_+_, _*_, _<_, _≤_};
 ghost use lib.ListN.{length};
 ghost use Rattle.stretch.specs.Over.{over};
 ghost use Rattle.image.specs.Numbers.{numbers, put};
-ghost use Rattle.image.specs.Fields.{headerSize, recordSize, countLimit, entrySize, issued, issuedPlace, journalCapacity, journalCount, journalCountPlace, poolCapacity, poolUsed, poolUsedPlace, recordCapacity, recordOf, active};
+ghost use Rattle.image.specs.Fields.{headerSize, countLimit, entrySize, statusInRecord, issued, issuedPlace};
+ghost use Rattle.image.specs.Fields.{journalCapacity, journalCount, journalCountPlace, poolCapacity, poolUsed};
+ghost use Rattle.image.specs.Fields.{poolUsedPlace, recordCapacity, recordOf, active};
 ghost use Rattle.image.specs.Header.{Header};
 ghost use Rattle.lookup.specs.Lookup.{asked};
 ghost use Rattle.changes.specs.Changes.{journalled, marked, numbered};
@@ -36,7 +38,8 @@ pub fn put_four(image: &mut [u8], at: usize, a: usize, b: usize, c: usize, d: us
 
 // Makes a number active or inactive.
 pub fn mark(image: &mut [u8], number: usize, status: usize)
-    requires { ⌜ (1 ≤ number) × (number ≤ countLimit) × (headerSize + recordSize * number ≤ length (now image)) ⌝ }
+    requires { ⌜ Header (now image) ⌝ }
+    requires { ⌜ (1 ≤ number) × (number ≤ issued (now image)) ⌝ }
     ensures { λ _. ⌜ now (image .exit) ≡ marked (now (image .entry)) number status ⌝ }
 {
     put_number(image, record_at(number) + STATUS_IN_RECORD, status);
@@ -66,7 +69,7 @@ pub fn change(image: &mut [u8], number: usize, status: usize)
 
 // Puts an active record of a form whose replacement stands in the pool from `offset` on.
 fn put_record(image: &mut [u8], at: usize, form: Form, offset: usize)
-    requires { ⌜ at + recordSize ≤ length (now image) ⌝ }
+    requires { ⌜ at + statusInRecord + 4 ≤ length (now image) ⌝ }
     ensures { λ _. ⌜ now (image .exit) ≡ over (now (image .entry)) at (recordOf (form .start) (form .end) offset (form .length) active) ⌝ }
 {
     put_four(

@@ -9,8 +9,10 @@ use Rattle.stretch.proofs.Over.{length-over}
 use Rattle.stretch.proofs.Through.{part-laid}
 use Rattle.refusal.specs.Limits.{referenceLimit}
 use Rattle.image.specs.Numbers.{number, numbers}
-use Rattle.image.specs.Fields.{headerSize, firstEdition, digestPlace, countLimit, poolLimit, journalPlace, poolPlace, imageSize, sequenceDigest, headerOf}
+use Rattle.image.specs.Fields.{headerSize, firstEdition, digestPlace, countLimit, poolLimit, journalPlace, poolPlace}
+use Rattle.image.specs.Fields.{imageSize, sequenceDigest, headerOf}
 use Rattle.image.proofs.Patched.{length-numbers, number-laid, number-first, number-numbers}
+use Rattle.image.proofs.Arranged.{header-journal, journal-pool, journal-held, pool-held}
 use Rattle.changes.specs.Changes.{blanked}
 use Rattle.effects.proofs.Seen.{Fresh}
 
@@ -64,7 +66,7 @@ pub blanked-seen : (b : List ℕ) (n : ℕ) (digest : List ℕ) (records journal
     → imageSize records journal pool ≤ length b
     → Fresh (length b) n digest records journal pool (blanked b n digest records journal pool)
 blanked-seen b n digest records journal pool whole r j p l size =
-    let room : headerSize ≤ length b = omega arith in
+    let room : headerSize ≤ length b = omega (arith, header-journal records, journal-pool records journal) in
     let read = blanked-number b n digest records journal pool whole room in
     record {
       long = blanked-long b n digest records journal pool whole room;
@@ -74,10 +76,10 @@ blanked-seen b n digest records journal pool whole r j p l size =
       records-at = read 3 (omega arith) (omega arith);
       journal = read 4 (omega arith) (omega arith);
       count = read 5 (omega arith) (omega arith);
-      journal-at = read 6 (omega arith) (omega arith);
+      journal-at = read 6 (omega arith) (journal-held records r);
       pool = read 7 (omega arith) (omega arith);
       used = read 8 (omega arith) (omega arith);
-      pool-at = read 9 (omega arith) (omega arith);
+      pool-at = read 9 (omega arith) (pool-held records journal r j);
       reference = read 10 (omega arith) (omega arith);
       digest = blanked-digest b n digest records journal pool whole room;
     }

@@ -2,16 +2,17 @@
 use Prim.Native.Nat.{ℕ, _+_, _≤_}
 use native.Mathlib.Nat.{not-suc-le-zero}
 use native.Mathlib.Omega.{arith}
-use mathlib.Core.Path.{_≡_}
+use mathlib.Core.Path.{_≡_, _∙_, sym, ap}
 use mathlib.Core.Bool.{true}
 use mathlib.Core.List.{List}
 use lib.ListN.{length}
 use Rattle.refusal.specs.Limits.{referenceLimit}
 use Rattle.stretch.specs.Class.{every}
-use Rattle.letters.specs.Letters.{base64url}
-use Rattle.image.specs.Fields.{countLimit, poolLimit, poolPlace, issued, poolUsed}
+use Rattle.letters.specs.Letters.{base64url, every}
+use Rattle.image.specs.Fields.{countLimit, poolLimit, poolPlace, issued, poolUsed, journalPlace}
 use Rattle.image.specs.Formed.{lengths, wellFormed}
 use Rattle.image.specs.Header.{Header}
+use Rattle.image.proofs.Arranged.{header-journal, journal-pool}
 use Rattle.image.proofs.WellFormed.{Formed, well-formed}
 use Rattle.changes.specs.Changes.{blanked}
 use Rattle.blank.proofs.BlankTests.{Blankable}
@@ -22,8 +23,9 @@ module _ (room n : ℕ) (d : List ℕ) (r j p : ℕ) (c : List ℕ) (f : Fresh r
   blank-header : n ≤ referenceLimit → r ≤ countLimit → j ≤ countLimit → p ≤ poolLimit → poolPlace r j + p ≤ room → Header c
   blank-header reference records journal pool fits =
       record {
-        journal = omega (arith, f .journal-at, f .records);
-        pool = omega (arith, f .pool-at, f .records, f .journal);
+        journal = f .journal-at ∙ ap journalPlace (sym (f .records));
+        after-header = omega (arith, f .journal-at, header-journal r);
+        pool = omega (arith, f .pool-at, f .journal-at, f .journal, journal-pool r j);
         records = omega (arith, f .numbers);
         journalled = omega (arith, f .count);
         used = omega (arith, f .used);

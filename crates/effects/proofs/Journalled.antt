@@ -51,5 +51,6 @@ module _ (b : List ℕ) (h : Header b) (room : journalCount b < journalCapacity 
   pub journalled-entry : n < 2 ^ 32 → number (journalled b c n) (nextEntry b) ≡ n
   unfolding journalled
   journalled-entry l =
-      number-aside listed journalCountPlace (journalCount b + 1) listed-room (nextEntry b) (inr (omega (arith, h .journal)))
+      number-aside listed journalCountPlace (journalCount b + 1) listed-room (nextEntry b)
+      (inr (omega (arith, h .after-header)))
       ∙ number-put c (nextEntry b) n (omega (arith, clear-entry b h i room .room)) l

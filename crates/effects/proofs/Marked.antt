@@ -6,10 +6,11 @@ use mathlib.Core.Path.{_≡_, refl, _∙_, ap}
 use mathlib.Core.List.{List}
 use lib.ListN.{length}
 use Rattle.image.specs.Numbers.{number, put}
-use Rattle.image.specs.Fields.{headerSize, issued, issuedPlace, journalCapacity, journalCount, journalCountPlace, poolUsed, poolUsedPlace, statusPlace, statusOf, active, inactive}
+use Rattle.image.specs.Fields.{headerSize, issued, issuedPlace, journalCapacity, journalCount, journalCountPlace}
+use Rattle.image.specs.Fields.{poolUsed, poolUsedPlace, statusPlace, statusOf, active, inactive}
 use Rattle.image.specs.Header.{Header}
 use Rattle.image.proofs.Numbers.{number-put}
-use Rattle.image.proofs.Patched.{record-header}
+use Rattle.image.proofs.Arranged.{fields-inside, record-header}
 use Rattle.image.proofs.Spared.{number-aside}
 use Rattle.changes.specs.Changes.{marked, journalled, withdrawn, reentered, latest, undone, sealed}
 use Rattle.effects.proofs.Seen.{Restated, Journalled, TakenBack, Closed}
@@ -27,7 +28,8 @@ module _ (b : List ℕ) (h : Header b) (w : Inside b) where
     marked-number : (p : ℕ) → p + 4 ≤ headerSize → number (marked b i v) p ≡ number b p
     unfolding marked
     marked-number p l =
-        number-aside b (statusPlace i) v (omega (arith, clear-status b h i o g .room)) p (inl (omega (arith, record-header i)))
+        number-aside b (statusPlace i) v (omega (arith, clear-status b h i o g .room)) p
+        (inl (omega (arith, record-header i)))
 
     marked-now : statusOf (marked b i v) i ≡ v
     unfolding marked
@@ -58,9 +60,9 @@ module _ (b : List ℕ) (h : Header b) (w : Inside b) where
         let end = record-end b h i i o g in
         record {
           restated = restated (journalled b c i) s
-              (same issuedPlace (inl (omega (arith, h .journal))) (inl (omega arith)))
-              (same poolUsedPlace (inl (omega (arith, h .journal))) (inr (omega arith)))
-              (same (statusPlace i) (inl (omega arith)) (inr (omega (arith, record-header i))));
+              (same issuedPlace (inl (omega (arith, h .after-header))) (inl (omega arith)))
+              (same poolUsedPlace (inl (omega (arith, h .after-header))) (inr (omega arith)))
+              (same (statusPlace i) (inl (omega (arith, end, fields-inside))) (inr (omega (arith, record-header i))));
           count = journalled-count b h room i c long i;
           last = read-entry-at b i (journalled b c i) (spares-on b i b c (journalled b c i) marked-spares s) (journalCount b)
               ∙ journalled-entry b h room i c long i (omega (arith, h .records, h .records-limit));

@@ -9,9 +9,11 @@ use lib.ListN.{length, getD}
 use Rattle.stretch.specs.Part.{part}
 use Rattle.normal.specs.Form.{Normal}
 use Rattle.image.specs.Numbers.{number}
-use Rattle.image.specs.Fields.{headerSize, recordCapacity, issued, issuedPlace, journalCapacity, journalCount, poolCapacity, poolUsed, poolUsedPlace, poolOffset, recordPlace, startOf, offsetOf, lengthOf, replacementOf}
+use Rattle.image.specs.Fields.{headerSize, recordCapacity, issued, issuedPlace, journalCapacity, journalCount}
+use Rattle.image.specs.Fields.{poolCapacity, poolUsed, poolUsedPlace, poolOffset, recordPlace, startOf, offsetOf}
+use Rattle.image.specs.Fields.{lengthOf, replacementOf}
 use Rattle.image.specs.Header.{Header}
-use Rattle.image.proofs.Patched.{record-header, record-journal}
+use Rattle.image.proofs.Arranged.{fields-inside, record-header, record-journal}
 use Rattle.image.proofs.Spared.{Spared, Aside, spared-on, spared-number}
 use Rattle.changes.specs.Changes.{counted, numbered}
 use Rattle.effects.proofs.Seen.{Stays, Issues}
@@ -49,15 +51,18 @@ module _ (b : List ℕ) (h : Header b) (f : Normal)
         spared-on (counted-spared b h 0 (stored b f) stored-long (length (f .replacement)) from to l)
         (journalled-spared b h journal-room 0 tally (tally-spares .long) (issued b + 1) from to a (inr (omega arith)))
 
-    next-number : (k : ℕ) → k < 5 → getD (laid b f) k 0 < 2 ^ 32 → number (numbered b f) (recordPlace (issued b + 1) + 4 * k) ≡ getD (laid b f) k 0
+    next-number : (k : ℕ) → k < 5 → getD (laid b f) k 0 < 2 ^ 32
+        → number (numbered b f) (recordPlace (issued b + 1) + 4 * k) ≡ getD (laid b f) k 0
     next-number k l g =
         let at = recordPlace (issued b + 1) + 4 * k in
         let end = record-journal (issued b + 1) (recordCapacity b) (omega arith) (omega arith) in
-        let s = numbered-spared at (at + 4) (omega (arith, record-header (issued b + 1))) (inl (omega (arith, end, h .journal))) in
+        let s = numbered-spared at (at + 4) (omega (arith, record-header (issued b + 1)))
+        (inl (omega (arith, end, h .journal, fields-inside))) in
         spared-number s at (omega arith) (omega arith) ∙ stored-number b h f record-room pool-room k l g
 
     next-start : f .start < 2 ^ 32 → startOf (numbered b f) (issued b + 1) ≡ f .start
-    next-start l = ap (number (numbered b f)) (sym (add-zero (recordPlace (issued b + 1)))) ∙ next-number 0 (omega arith) l
+    next-start l = ap (number (numbered b f)) (sym (add-zero (recordPlace (issued b + 1))))
+        ∙ next-number 0 (omega arith) l
 
     next-offset : offsetOf (numbered b f) (issued b + 1) ≡ poolUsed b
     next-offset = next-number 2 (omega arith) (omega (arith, h .used, h .pool-limit))
@@ -65,11 +70,12 @@ module _ (b : List ℕ) (h : Header b) (f : Normal)
     next-length : lengthOf (numbered b f) (issued b + 1) ≡ length (f .replacement)
     next-length = next-number 3 (omega arith) (omega (arith, h .pool-limit))
 
-    next-letters : part (numbered b f) (poolOffset b + poolUsed b) (poolOffset b + poolUsed b + length (f .replacement)) ≡ f .replacement
+    next-letters : part (numbered b f) (poolOffset b + poolUsed b)
+        (poolOffset b + poolUsed b + length (f .replacement)) ≡ f .replacement
     next-letters =
         let from = poolOffset b + poolUsed b in
         let to = from + length (f .replacement) in
-        let s = numbered-spared from to (omega (arith, h .pool)) (inr (omega (arith, h .journal, h .pool))) in
+        let s = numbered-spared from to (omega (arith, h .after-header, h .pool)) (inr (omega (arith, h .pool))) in
         s .parts from to (omega arith) (omega arith) (omega arith) ∙ stored-letters b h f record-room pool-room
 
     next-replacement : Stays b (numbered b f) → replacementOf (numbered b f) (issued b + 1) ≡ f .replacement
@@ -79,13 +85,15 @@ module _ (b : List ℕ) (h : Header b) (f : Normal)
     numbered-issued : issued (numbered b f) ≡ issued b + 1
     unfolding numbered
     numbered-issued =
-        journalled-number b h journal-room 0 tally (tally-spares .long) (issued b + 1) issuedPlace (inl (omega (arith, h .journal))) (inl (omega arith))
+        journalled-number b h journal-room 0 tally (tally-spares .long) (issued b + 1) issuedPlace
+        (inl (omega (arith, h .after-header))) (inl (omega arith))
         ∙ counted-issued b h 0 (stored b f) stored-long (length (f .replacement))
 
     numbered-used : poolUsed (numbered b f) ≡ poolUsed b + length (f .replacement)
     unfolding numbered
     numbered-used =
-        journalled-number b h journal-room 0 tally (tally-spares .long) (issued b + 1) poolUsedPlace (inl (omega (arith, h .journal))) (inr (omega arith))
+        journalled-number b h journal-room 0 tally (tally-spares .long) (issued b + 1) poolUsedPlace
+        (inl (omega (arith, h .after-header))) (inr (omega arith))
         ∙ counted-used b h 0 (stored b f) stored-long (length (f .replacement)) pool-room
 
     numbered-count : journalCount (numbered b f) ≡ journalCount b + 1

@@ -5,7 +5,12 @@ use mathlib.Core.Path.{_≡_, refl, _∙_, ap}
 use mathlib.Core.List.{List}
 use Rattle.stretch.specs.Part.{part}
 use Rattle.image.specs.Numbers.{number}
-use Rattle.image.specs.Fields.{headerSize, editionPlace, recordCapacityPlace, issuedPlace, recordsOffsetPlace, journalCapacityPlace, journalCountPlace, journalOffsetPlace, poolCapacityPlace, poolUsedPlace, poolOffsetPlace, referenceLengthPlace, digestPlace, journalOffset, issued, journalCount, poolUsed, poolOffset, recordPlace, endInRecord, offsetInRecord, lengthInRecord, statusPlace, offsetOf, lengthOf, statusOf, replacementOf, entryPlace, entryOf, entrySize}
+use Rattle.image.specs.Fields.{headerSize, editionPlace, recordCapacityPlace, issuedPlace, recordsOffsetPlace}
+use Rattle.image.specs.Fields.{journalCapacityPlace, journalCountPlace, journalOffsetPlace, poolCapacityPlace}
+use Rattle.image.specs.Fields.{poolUsedPlace, poolOffsetPlace, referenceLengthPlace, digestPlace, journalOffset, issued}
+use Rattle.image.specs.Fields.{journalCount, poolUsed, poolOffset, recordPlace, endInRecord, offsetInRecord}
+use Rattle.image.specs.Fields.{lengthInRecord, statusPlace, offsetOf, lengthOf, statusOf, replacementOf, entryPlace}
+use Rattle.image.specs.Fields.{entryOf, entrySize}
 use Rattle.image.proofs.Spared.{spared-number}
 use Rattle.effects.proofs.Seen.{Frame, Kept, Stays}
 use Rattle.effects.proofs.Spares.{Unwritten, edition-on, records-on, journal-on, pool-on, record-of, status-of, entries, letters, Spares}
@@ -24,23 +29,30 @@ module _ (b : List ℕ) (i : ℕ) (c : List ℕ) (s : Spares b i b c) where
         long = s .long;
         edition = read-number editionPlace issuedPlace edition-on editionPlace (omega arith) (omega arith);
         records = read-number editionPlace issuedPlace edition-on recordCapacityPlace (omega arith) (omega arith);
-        records-at = read-number recordsOffsetPlace journalCountPlace records-on recordsOffsetPlace (omega arith) (omega arith);
-        journal = read-number recordsOffsetPlace journalCountPlace records-on journalCapacityPlace (omega arith) (omega arith);
-        journal-at = read-number journalOffsetPlace poolUsedPlace journal-on journalOffsetPlace (omega arith) (omega arith);
+        records-at = read-number recordsOffsetPlace journalCountPlace records-on recordsOffsetPlace (omega arith)
+            (omega arith);
+        journal = read-number recordsOffsetPlace journalCountPlace records-on journalCapacityPlace (omega arith)
+            (omega arith);
+        journal-at = read-number journalOffsetPlace poolUsedPlace journal-on journalOffsetPlace (omega arith)
+            (omega arith);
         pool = read-number journalOffsetPlace poolUsedPlace journal-on poolCapacityPlace (omega arith) (omega arith);
         pool-at = read-number poolOffsetPlace headerSize pool-on poolOffsetPlace (omega arith) (omega arith);
         reference = read-number poolOffsetPlace headerSize pool-on referenceLengthPlace (omega arith) (omega arith);
-        digest = s .spared poolOffsetPlace headerSize pool-on .parts digestPlace headerSize (omega arith) (omega arith) (omega arith);
+        digest = s .spared poolOffsetPlace headerSize pool-on .parts digestPlace headerSize (omega arith)
+            (omega arith) (omega arith);
       }
 
   module _ (j : ℕ) (o : 1 ≤ j) (g : j ≤ issued b) where
     read-record : (k : ℕ) → k ≤ lengthInRecord → number c (recordPlace j + k) ≡ number b (recordPlace j + k)
-    read-record k l = read-number (recordPlace j) (statusPlace j) (record-of j o g) (recordPlace j + k) (omega arith) (omega arith)
+    read-record k l = read-number (recordPlace j) (statusPlace j) (record-of j o g) (recordPlace j + k) (omega arith)
+        (omega arith)
 
     -- the letters of a record that lie in the pool
-    read-letters : (at off n : ℕ) → at ≡ poolOffset b → off + n ≤ poolUsed b → part c (at + off) (at + off + n) ≡ part b (at + off) (at + off + n)
+    read-letters : (at off n : ℕ) → at ≡ poolOffset b → off + n ≤ poolUsed b
+        → part c (at + off) (at + off + n) ≡ part b (at + off) (at + off + n)
     read-letters at off n e l =
-        s .spared (poolOffset b) (poolOffset b + poolUsed b) letters .parts (at + off) (at + off + n) (omega arith) (omega arith) (omega arith)
+        s .spared (poolOffset b) (poolOffset b + poolUsed b) letters .parts (at + off) (at + off + n) (omega arith)
+        (omega arith) (omega arith)
 
     read-replacement : Inside b → replacementOf c j ≡ replacementOf b j
     unfolding replacementOf
@@ -51,7 +63,8 @@ module _ (b : List ℕ) (i : ℕ) (c : List ℕ) (s : Spares b i b c) where
     read-kept : Inside b → Kept b c j
     read-kept w =
         record {
-          start = read-number (recordPlace j) (statusPlace j) (record-of j o g) (recordPlace j) (omega arith) (omega arith);
+          start = read-number (recordPlace j) (statusPlace j) (record-of j o g) (recordPlace j) (omega arith)
+              (omega arith);
           end = read-record endInRecord (omega arith);
           offset = read-record offsetInRecord (omega arith);
           letters = read-record lengthInRecord (omega arith);
@@ -59,7 +72,8 @@ module _ (b : List ℕ) (i : ℕ) (c : List ℕ) (s : Spares b i b c) where
         }
 
     pub read-status : (j ≡ i → ⊥) → statusOf c j ≡ statusOf b j
-    read-status d = read-number (statusPlace j) (statusPlace j + 4) (status-of j o g d) (statusPlace j) (omega arith) (omega arith)
+    read-status d = read-number (statusPlace j) (statusPlace j + 4) (status-of j o g d) (statusPlace j) (omega arith)
+        (omega arith)
 
   -- entries stand where they stood
   pub read-entry-at : (k : ℕ) → entryOf c k ≡ number c (entryPlace b k)
@@ -67,7 +81,8 @@ module _ (b : List ℕ) (i : ℕ) (c : List ℕ) (s : Spares b i b c) where
 
   read-entry : (k : ℕ) → k < journalCount b → entryOf c k ≡ entryOf b k
   read-entry k l =
-      read-entry-at k ∙ (read-number (journalOffset b) (entryPlace b (journalCount b)) entries (entryPlace b k) (omega arith) (omega arith))
+      read-entry-at k ∙ (read-number (journalOffset b) (entryPlace b (journalCount b)) entries (entryPlace b k)
+      (omega arith) (omega arith))
 
   pub read-stays : Inside b → Stays b c
   read-stays w = record { frame = read-frame; kept = λ j o g. read-kept j o g w; entries = read-entry }

@@ -4,7 +4,10 @@ use mathlib.Core.Path.{_≡_}
 use mathlib.Core.List.{List}
 use lib.ListN.{length}
 use Rattle.normal.specs.Form.{Normal}
-use Rattle.image.specs.Fields.{headerSize, journalPlace, poolPlace, edition, recordCapacity, issued, recordsOffset, journalCapacity, journalCount, journalOffset, poolCapacity, poolUsed, poolOffset, referenceLength, sequenceDigest, startOf, endOf, offsetOf, lengthOf, statusOf, replacementOf, entryOf, active}
+use Rattle.image.specs.Fields.{headerSize, journalPlace, poolPlace, edition, recordCapacity, issued, recordsOffset}
+use Rattle.image.specs.Fields.{journalCapacity, journalCount, journalOffset, poolCapacity, poolUsed, poolOffset}
+use Rattle.image.specs.Fields.{referenceLength, sequenceDigest, startOf, endOf, offsetOf, lengthOf, statusOf}
+use Rattle.image.specs.Fields.{replacementOf, entryOf, active}
 
 -- the header, but for its counts
 pub record Frame (b c : List ℕ) : Type 0 where

@@ -7,7 +7,9 @@ use lib.ListN.{length}
 use Rattle.stretch.specs.Over.{over}
 use Rattle.stretch.proofs.Over.{length-over}
 use Rattle.image.specs.Numbers.{bytes, put}
-use Rattle.image.specs.Fields.{headerSize, editionPlace, issued, issuedPlace, recordsOffsetPlace, journalCount, journalCountPlace, journalOffset, journalOffsetPlace, poolOffset, poolOffsetPlace, poolUsed, poolUsedPlace, recordPlace, statusPlace, entryPlace}
+use Rattle.image.specs.Fields.{headerSize, editionPlace, issued, issuedPlace, recordsOffsetPlace, journalCount}
+use Rattle.image.specs.Fields.{journalCountPlace, journalOffset, journalOffsetPlace, poolOffset, poolOffsetPlace}
+use Rattle.image.specs.Fields.{poolUsed, poolUsedPlace, recordPlace, statusPlace, entryPlace}
 use Rattle.image.proofs.Numbers.{length-bytes}
 use Rattle.image.proofs.Spared.{Spared, Aside, spared-over, spared-on}
 

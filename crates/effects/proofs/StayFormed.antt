@@ -3,13 +3,14 @@ use Prim.Native.Nat.{ℕ, suc, _+_, _<_, _≤_}
 use native.Mathlib.Nat.{eq-or-lt-of-le}
 use native.Mathlib.Omega.{arith}
 use mathlib.Core.Logic.{⊎-elim}
-use mathlib.Core.Path.{_≡_, _∙_, sym, subst}
+use mathlib.Core.Path.{_≡_, _∙_, sym, ap, subst}
 use mathlib.Core.Bool.{true}
 use mathlib.Core.List.{List}
 use lib.Dec.{eqb}
 use borrow.Author.Tests.{eqb-true, eqb-false}
 use Rattle.stretch.proofs.Cases.{by-cases}
-use Rattle.image.specs.Fields.{recordCapacity, issued, journalCapacity, journalCount, poolCapacity, poolUsed, statusOf, entryOf}
+use Rattle.image.specs.Fields.{journalPlace, recordCapacity, issued, journalCapacity, journalCount, poolCapacity}
+use Rattle.image.specs.Fields.{poolUsed, statusOf, entryOf}
 use Rattle.image.specs.Formed.{lengths, wellFormed}
 use Rattle.image.specs.Header.{Header}
 use Rattle.image.proofs.Lengths.{lengths-same}
@@ -46,8 +47,9 @@ module _ (b c : List ℕ) (f : Formed b) (s : Stays b c) where
       let h = f .header in
       let frame = s .frame in
       record {
-        journal = omega (arith, frame .journal-at, frame .records, h .journal);
-        pool = omega (arith, frame .pool-at, frame .records, frame .journal, h .pool);
+        journal = frame .journal-at ∙ h .journal ∙ ap journalPlace (sym (frame .records));
+        after-header = omega (arith, frame .journal-at, h .after-header);
+        pool = omega (arith, frame .pool-at, frame .journal-at, frame .journal, h .pool);
         records = omega (arith, frame .records);
         journalled = omega (arith, frame .journal);
         used = omega (arith, frame .pool);

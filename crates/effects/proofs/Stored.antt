@@ -9,9 +9,11 @@ use Rattle.stretch.specs.Part.{part}
 use Rattle.stretch.proofs.Over.{part-over}
 use Rattle.normal.specs.Form.{Normal}
 use Rattle.image.specs.Numbers.{number, numbers}
-use Rattle.image.specs.Fields.{recordSize, recordCapacity, issued, poolCapacity, poolUsed, poolOffset, recordPlace, recordOf, active}
+use Rattle.image.specs.Fields.{recordSize, recordCapacity, issued, poolCapacity, poolUsed, poolOffset, recordPlace}
+use Rattle.image.specs.Fields.{recordOf, active}
 use Rattle.image.specs.Header.{Header}
-use Rattle.image.proofs.Patched.{length-numbers, number-laid, number-numbers, record-journal}
+use Rattle.image.proofs.Patched.{length-numbers, number-laid, number-numbers}
+use Rattle.image.proofs.Arranged.{fields-inside, length-record, record-journal}
 use Rattle.image.proofs.Spared.{number-beside}
 use Rattle.changes.specs.Changes.{recorded, pooled}
 use Rattle.effects.proofs.Spares.{Spares, spares-over, spares-on}
@@ -30,18 +32,24 @@ module _ (b : List ℕ) (h : Header b) (f : Normal)
     (pool-room : poolUsed b + length (f .replacement) ≤ poolCapacity b)
   where
     next-end : recordPlace (issued b + 1) + recordSize ≤ poolOffset b
-    next-end = omega (arith, record-journal (issued b + 1) (recordCapacity b) (omega arith) (omega arith), h .pool)
+    next-end =
+        let before = record-journal (issued b + 1) (recordCapacity b) (omega arith) (omega arith) in
+        omega (arith, before, h .journal, h .pool)
 
     recorded-spares : Spares b 0 b (recorded b f)
     unfolding recorded recordOf
     recorded-spares =
-        spares-over b 0 b (recordPlace (issued b + 1)) (numbers (laid b f)) refl (rw (length-numbers (laid b f)) (clear-record b h 0 record-room))
+        spares-over b 0 b (recordPlace (issued b + 1)) (numbers (laid b f)) refl
+        (rw (length-record (f .start) (f .end) (poolUsed b) (length (f .replacement)) active)
+        (clear-record b h 0 record-room))
 
-    recorded-number : (k : ℕ) → k < 5 → getD (laid b f) k 0 < 2 ^ 32 → number (recorded b f) (recordPlace (issued b + 1) + 4 * k) ≡ getD (laid b f) k 0
+    recorded-number : (k : ℕ) → k < 5 → getD (laid b f) k 0 < 2 ^ 32
+        → number (recorded b f) (recordPlace (issued b + 1) + 4 * k) ≡ getD (laid b f) k 0
     unfolding recorded recordOf
     recorded-number k l g =
         let room : recordPlace (issued b + 1) ≤ length b = omega (arith, clear-record b h 0 record-room .room) in
-        number-laid b (recordPlace (issued b + 1)) (numbers (laid b f)) room (4 * k) (rw (length-numbers (laid b f)) (omega arith))
+        number-laid b (recordPlace (issued b + 1)) (numbers (laid b f)) room (4 * k)
+        (rw (length-numbers (laid b f)) (omega arith))
         ∙ number-numbers (laid b f) k l g
 
     pool-starts : poolOffset b + poolUsed b ≤ length (recorded b f)
@@ -55,13 +63,17 @@ module _ (b : List ℕ) (h : Header b) (f : Normal)
         (clear-letters b h 0 (length (f .replacement)) pool-room))
 
     -- the record's numbers, in their order
-    pub stored-number : (k : ℕ) → k < 5 → getD (laid b f) k 0 < 2 ^ 32 → number (stored b f) (recordPlace (issued b + 1) + 4 * k) ≡ getD (laid b f) k 0
+    pub stored-number : (k : ℕ) → k < 5 → getD (laid b f) k 0 < 2 ^ 32
+        → number (stored b f) (recordPlace (issued b + 1) + 4 * k) ≡ getD (laid b f) k 0
     unfolding pooled
     stored-number k l g =
         let at = recordPlace (issued b + 1) + 4 * k in
-        number-beside (recorded b f) (poolOffset b + poolUsed b) (f .replacement) pool-starts at (inl (omega (arith, next-end)))
+        number-beside (recorded b f) (poolOffset b + poolUsed b) (f .replacement) pool-starts at
+        (inl (omega (arith, next-end, fields-inside)))
         ∙ recorded-number k l g
 
-    pub stored-letters : part (stored b f) (poolOffset b + poolUsed b) (poolOffset b + poolUsed b + length (f .replacement)) ≡ f .replacement
+    pub stored-letters : part (stored b f) (poolOffset b + poolUsed b)
+        (poolOffset b + poolUsed b + length (f .replacement)) ≡ f .replacement
     unfolding pooled
-    stored-letters = part-over (recorded b f) (poolOffset b + poolUsed b) (f .replacement) (length (f .replacement)) pool-starts refl
+    stored-letters = part-over (recorded b f) (poolOffset b + poolUsed b) (f .replacement)
+        (length (f .replacement)) pool-starts refl

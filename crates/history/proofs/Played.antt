@@ -10,8 +10,9 @@ use Rattle.letters.specs.Letters.{letter, residue, base64url, digestTextGrounds
 use Rattle.normal.specs.Form.{altered, shorter, within, ahead, behind, kindIn, kindOf, changedForm, normal}
 use Rattle.forming.specs.Calls.{formGrounds}
 use Rattle.image.specs.Numbers.{little, bytes, number, numbers, put}
-use Rattle.image.specs.Fields.{headerOf, recordPlace, recordOf, replacementOf}
-use Rattle.image.specs.Formed.{laidOut, countsWithin, withinLimits, headerFormed, lengths, recordGood, entryGood, wellFormed}
+use Rattle.image.specs.Fields.{recordSize, journalPlace, poolPlace, headerOf, recordPlace, recordOf, replacementOf}
+use Rattle.image.specs.Formed.{laidOut, countsWithin, withinLimits, headerFormed, lengths, recordGood, entryGood}
+use Rattle.image.specs.Formed.{wellFormed}
 use Rattle.numbering.specs.declared.Entered.the-variants.{New, Again, Known}
 use Rattle.register.specs.declared.Undone.the-variants.{Number}
 use Rattle.lookup.specs.Lookup.{holds, lowest, lowestHolding}
@@ -30,7 +31,7 @@ unfolding below lcp lcs over same
     residue letter base64url every firstOutside digestTextGrounds
     altered shorter within ahead behind kindIn kindOf changedForm normal formGrounds
     little bytes number numbers put
-    headerOf recordPlace recordOf replacementOf
+    recordSize journalPlace poolPlace headerOf recordPlace recordOf replacementOf
     laidOut countsWithin withinLimits headerFormed lengths recordGood entryGood wellFormed
     holds lowest lowestHolding found
     blanked journalled marked withdrawn reentered recorded pooled counted numbered latest undone sealed

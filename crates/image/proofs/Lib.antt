@@ -1,5 +1,6 @@
 pub mod Numbers
 pub mod Patched
+pub mod Arranged
 pub mod Spared
 pub mod Tests
 pub mod Pool

@@ -1,4 +1,4 @@
--- Numbers laid on an image, one behind the other; where the records stand.
+-- Numbers laid on an image, one behind the other.
 use Prim.Native.Nat.{ℕ, zero, suc, _+_, _*_, _^_, _<_, _≤_}
 use native.Mathlib.Nat.{not-suc-le-zero, le-of-suc-le-suc, add-sub-cancel-left}
 use native.Mathlib.Omega.{arith}
@@ -10,7 +10,6 @@ use Rattle.stretch.specs.Over.{over}
 use Rattle.stretch.specs.Part.{part}
 use Rattle.stretch.proofs.Through.{part-first, part-laid}
 use Rattle.image.specs.Numbers.{little, bytes, numbers, number}
-use Rattle.image.specs.Fields.{headerSize, recordSize, journalPlace, recordPlace}
 use Rattle.image.proofs.Numbers.{length-bytes, little-bytes}
 
 pub number-laid : (b : List ℕ) (at : ℕ) (s : List ℕ) → at ≤ length b → (i : ℕ) → i + 4 ≤ length s → number (over b at s) (at + i) ≡ number s i
@@ -45,20 +44,3 @@ number-numbers vs k h l =
     ap (λ (n : ℕ). little (take n (drop (4 * k) (numbers vs)))) (add-sub-cancel-left (4 * k) 4)
     ∙ ap little (part-numbers vs k h)
     ∙ little-bytes 4 (getD vs k 0) l
-
--- where records stand
-pub record-header : (i : ℕ) → headerSize ≤ recordPlace i
-unfolding recordPlace
-record-header i = omega arith
-
-pub record-order : (i j : ℕ) → i ≤ j → recordPlace i ≤ recordPlace j
-unfolding recordPlace
-record-order i j l = omega arith
-
-pub record-apart : (i j : ℕ) → 1 ≤ i → i < j → recordPlace i + recordSize ≤ recordPlace j
-unfolding recordPlace
-record-apart i j h l = omega arith
-
-pub record-journal : (i n : ℕ) → 1 ≤ i → i ≤ n → recordPlace i + recordSize ≤ journalPlace n
-unfolding recordPlace
-record-journal i n h l = omega arith

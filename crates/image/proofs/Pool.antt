@@ -17,7 +17,9 @@ use Rattle.stretch.specs.Class.{every}
 use Rattle.letters.specs.Letters.{residue}
 use Rattle.stretch.proofs.Class.{every-append}
 use Rattle.image.specs.Numbers.{number}
-use Rattle.image.specs.Fields.{issued, poolUsed, recordPlace, endInRecord, offsetInRecord, lengthInRecord, statusInRecord, active, poolOffset, referenceLength, startOf, endOf, offsetOf, lengthOf, statusOf, replacementOf}
+use Rattle.image.specs.Fields.{issued, poolUsed, recordPlace, endInRecord, offsetInRecord, lengthInRecord}
+use Rattle.image.specs.Fields.{statusInRecord, active, poolOffset, referenceLength, startOf, endOf, offsetOf}
+use Rattle.image.specs.Fields.{lengthOf, statusOf, replacementOf}
 use Rattle.image.specs.Formed.{all, lengths, recordGood}
 use Rattle.image.proofs.Tests.{all-append, all-one, both, last}
 
@@ -58,7 +60,8 @@ cond-swap false true = refl
 cond-swap false false = refl
 
 -- the pool's residues behind the first n records
-good-pool : (b : List ℕ) (n : ℕ) → below (placed b) n ≡ true → below (recordGood b) n ≡ every residue (part b (poolOffset b) (poolOffset b + lengths b n))
+good-pool : (b : List ℕ) (n : ℕ) → below (placed b) n ≡ true
+    → below (recordGood b) n ≡ every residue (part b (poolOffset b) (poolOffset b + lengths b n))
 unfolding below lengths replacementOf every
 good-pool b zero h = rw (add-sub-cancel-left (poolOffset b) 0)
 good-pool b (suc n) h =
@@ -69,7 +72,8 @@ good-pool b (suc n) h =
     (cond-swap (every residue (part b at (at + lengthOf b (suc n)))) (every residue (part b (poolOffset b) at))))
 
 -- the loop over the records: one as the code tests it, one more, one that is not placed, and the end
-pub placed-at : (b : List ℕ) (k at reference before : ℕ) → at ≡ recordPlace (k + 1) → reference ≡ referenceLength b → before ≡ lengths b k
+pub placed-at : (b : List ℕ) (k at reference before : ℕ) → at ≡ recordPlace (k + 1) → reference ≡ referenceLength b
+    → before ≡ lengths b k
     → all (leb (number b at) (number b (at + endInRecord))
     ∷ leb (number b (at + endInRecord)) reference
     ∷ leb (number b (at + statusInRecord)) active
@@ -79,7 +83,8 @@ pub placed-at : (b : List ℕ) (k at reference before : ℕ) → at ≡ recordPl
 unfolding placed
 placed-at b k at reference before p q r = rw (p, q, r, add-one k)
 
-pub lengths-next : (b : List ℕ) (k at before : ℕ) → at ≡ recordPlace (k + 1) → before ≡ lengths b k → before + number b (at + lengthInRecord) ≡ lengths b (k + 1)
+pub lengths-next : (b : List ℕ) (k at before : ℕ) → at ≡ recordPlace (k + 1) → before ≡ lengths b k
+    → before + number b (at + lengthInRecord) ≡ lengths b (k + 1)
 unfolding lengths
 lengths-next b k at before p q = rw (p, q, add-one k)
 

@@ -1,5 +1,6 @@
 -- The tests of well-formedness in the order of the code, and what the header's say where they pass.
 use Prim.Native.Nat.{ℕ}
+use native.Mathlib.Omega.{arith}
 use mathlib.Core.Path.{_≡_}
 use mathlib.Core.Bool.{Bool, true, false, cond}
 use mathlib.Core.List.{List, [], _∷_}
@@ -9,9 +10,10 @@ use borrow.Author.Tests.{leb-true, eqb-true}
 use Rattle.stretch.specs.Below.{below}
 use Rattle.stretch.specs.Class.{every}
 use Rattle.letters.specs.Letters.{base64url, every}
-use Rattle.image.specs.Fields.{headerSize, edition, issued, recordsAt, journalCount, poolCapacity, poolUsed, poolAt, sequenceDigest, firstEdition, recordsOffset, poolOffset}
+use Rattle.image.specs.Fields.{headerSize, edition, issued, recordsAt, journalCount, poolCapacity, poolUsed, poolAt, sequenceDigest, firstEdition, recordsOffset, poolOffset, journalPlace, poolPlace, recordCapacity, journalCapacity, journalOffset}
 use Rattle.image.specs.Formed.{all, laidOut, countsWithin, withinLimits, lengths, recordGood, entryGood, wellFormed, headerFormed}
 use Rattle.image.specs.Header.{Header}
+use Rattle.image.proofs.Arranged.{header-journal, journal-pool}
 use Rattle.image.proofs.Tests.{all-append, all-one, both, last}
 
 abbrev recordTests : List ℕ → List Bool
@@ -27,7 +29,8 @@ pub formed-steps : (b : List ℕ)
 unfolding wellFormed
 formed-steps b =
     let entries = below (entryGood b) (journalCount b) in
-    rw (all-append (recordTests b) (entries ∷ [])) (rw (all-one entries, all-one (eqb (lengths b (issued b)) (poolUsed b))))
+    rw (all-append (recordTests b) (entries ∷ []))
+    (rw (all-one entries, all-one (eqb (lengths b (issued b)) (poolUsed b))))
 
 pub header-tested : (b : List ℕ) → headerFormed b ≡ true → Header b
 unfolding headerFormed laidOut countsWithin withinLimits
@@ -39,14 +42,18 @@ header-tested b h =
     let edition-first = both (eqb (edition b) firstEdition) _ (laid .0) in
     let records-at = both (eqb (recordsOffset b) headerSize) _ (edition-first .1) in
     let journal-at = both _ _ (records-at .1) in
+    let pool : poolOffset b ≡ poolPlace (recordCapacity b) (journalCapacity b)
+    = eqb-true _ _ (last _ (journal-at .1)) in
+    let at = eqb-true (journalOffset b) (journalPlace (recordCapacity b)) (journal-at .0) in
     let records = both _ _ (counts .0) in
     let journalled = both _ _ (records .1) in
     let records-limit = both _ _ (limits .0) in
     let journal-limit = both _ _ (records-limit .1) in
     let pool-limit = both _ _ (journal-limit .1) in
     record {
-      journal = eqb-true _ _ (journal-at .0);
-      pool = eqb-true _ _ (last _ (journal-at .1));
+      journal = at;
+      after-header = omega (arith, at, header-journal (recordCapacity b));
+      pool = omega (arith, at, pool, journal-pool (recordCapacity b) (journalCapacity b));
       records = leb-true _ _ (records .0);
       journalled = leb-true _ _ (journalled .0);
       used = leb-true _ _ (last _ (journalled .1));

@@ -10,9 +10,10 @@ use borrow.Author.Tests.{leb-true, le-leb, eqb-true, eq-eqb}
 use Rattle.stretch.proofs.Below.{below-at, below-all}
 use Rattle.stretch.specs.Class.{every}
 use Rattle.letters.specs.Letters.{residue, base64url, every}
-use Rattle.image.specs.Fields.{headerSize, edition, issued, recordsAt, journalCount, poolUsed, referenceLength, sequenceDigest, startOf, endOf, offsetOf, statusOf, replacementOf, entryOf, firstEdition, active, recordsOffset}
+use Rattle.image.specs.Fields.{headerSize, edition, issued, recordsAt, journalCount, poolUsed, referenceLength, sequenceDigest, startOf, endOf, offsetOf, statusOf, replacementOf, entryOf, firstEdition, active, recordsOffset, poolPlace, recordCapacity, journalCapacity, poolOffset}
 use Rattle.image.specs.Formed.{laidOut, countsWithin, withinLimits, lengths, recordGood, entryGood, wellFormed, headerFormed}
 use Rattle.image.specs.Header.{Header}
+use Rattle.image.proofs.Arranged.{journal-pool}
 use Rattle.image.proofs.Tests.{both, last}
 use Rattle.image.proofs.Tested.{formed-steps, header-tested}
 
@@ -94,7 +95,10 @@ module _ (b : List ℕ) where
   laid-out : Formed b → laidOut b ≡ true
   unfolding laidOut
   laid-out f =
-      rw (eq-eqb _ _ (f .edition), eq-eqb _ _ (f .records-at), eq-eqb _ _ (f .header .journal), eq-eqb _ _ (f .header .pool))
+      let h = f .header in
+      let pool : poolOffset b ≡ poolPlace (recordCapacity b) (journalCapacity b)
+      = omega (arith, h .journal, h .pool, journal-pool (recordCapacity b) (journalCapacity b)) in
+      rw (eq-eqb _ _ (f .edition), eq-eqb _ _ (f .records-at), eq-eqb _ _ (h .journal), eq-eqb _ _ pool)
 
   counts-within : Formed b → countsWithin b ≡ true
   unfolding countsWithin
@@ -110,11 +114,12 @@ module _ (b : List ℕ) where
   unfolding headerFormed
   header-formed f =
       let h = f .header in
-      let long : headerSize ≤ length b = omega (arith, h .pool, h .whole) in
+      let long : headerSize ≤ length b = omega (arith, h .after-header, h .pool, h .whole) in
       rw (le-leb _ _ long, laid-out f, counts-within f, within-limits f, f .digest, le-leb _ _ (h .whole))
 
   pub well-formed : Formed b → wellFormed b ≡ true
   unfolding wellFormed
   well-formed f =
-      rw (header-formed f, below-all (recordGood b) (issued b) (λ k l. record-good k (f .records k l)), eq-eqb _ _ (f .used))
+      let records = below-all (recordGood b) (issued b) (λ k l. record-good k (f .records k l)) in
+      rw (header-formed f, records, eq-eqb _ _ (f .used))
       (rw (below-all (entryGood b) (journalCount b) (λ j l. entry-good j (f .entries j l))))

@@ -4,11 +4,11 @@ use mathlib.Core.List.{List, [], _∷_, _++_}
 use Rattle.stretch.specs.Part.{part}
 use Rattle.image.specs.Numbers.{number, numbers}
 
--- the sizes of the header, of a record and of a journal entry
+-- the sizes of the header, of a record and of a journal entry; what hangs on a record's is told by proofs/Arranged alone
 abbrev pub headerSize : ℕ
 headerSize = 76
 
-abbrev pub recordSize : ℕ
+unfoldable pub recordSize : ℕ
 recordSize = 20
 
 abbrev pub entrySize : ℕ
@@ -26,10 +26,10 @@ abbrev pub poolLimit : ℕ
 poolLimit = 10_000_000
 
 -- where the journal and the pool begin, and how long an image is
-abbrev pub journalPlace : ℕ → ℕ
+unfoldable pub journalPlace : ℕ → ℕ
 journalPlace records = headerSize + recordSize * records
 
-abbrev pub poolPlace : ℕ → ℕ → ℕ
+unfoldable pub poolPlace : ℕ → ℕ → ℕ
 poolPlace records journal = journalPlace records + entrySize * journal
 
 abbrev pub imageSize : ℕ → ℕ → ℕ → ℕ

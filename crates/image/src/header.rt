@@ -2,7 +2,6 @@
 use super::COUNT_LIMIT;
 use super::DIGEST_AT;
 use super::EDITION_AT;
-use super::ENTRY_SIZE;
 use super::FIRST_EDITION;
 use super::HEADER_SIZE;
 use super::ISSUED_AT;
@@ -14,10 +13,11 @@ use super::POOL_LIMIT;
 use super::POOL_OFFSET_AT;
 use super::POOL_USED_AT;
 use super::RECORD_CAPACITY_AT;
-use super::RECORD_SIZE;
 use super::RECORDS_OFFSET_AT;
 use super::REFERENCE_LENGTH_AT;
 use super::number::read_number;
+use super::places::journal_at;
+use super::places::pool_at;
 use letters::first_outside_base64url;
 ghost use mathlib.Core.Path.{_≡_};
 ghost use Prim.Native.Nat.{_+_, _≤_};
@@ -34,12 +34,12 @@ fn laid_out(image: &[u8]) -> bool
     requires { ⌜ headerSize ≤ length (now image) ⌝ }
     ensures { λ r. ⌜ r ≡ laidOut (now (image .entry)) ⌝ }
 {
-    let journal = HEADER_SIZE + RECORD_SIZE * read_number(image, RECORD_CAPACITY_AT);
-    let pool = journal + ENTRY_SIZE * read_number(image, JOURNAL_CAPACITY_AT);
+    let records = read_number(image, RECORD_CAPACITY_AT);
+    let entries = read_number(image, JOURNAL_CAPACITY_AT);
     (read_number(image, EDITION_AT) == FIRST_EDITION)
         & (read_number(image, RECORDS_OFFSET_AT) == HEADER_SIZE)
-        & (read_number(image, JOURNAL_OFFSET_AT) == journal)
-        & (read_number(image, POOL_OFFSET_AT) == pool)
+        & (read_number(image, JOURNAL_OFFSET_AT) == journal_at(records))
+        & (read_number(image, POOL_OFFSET_AT) == pool_at(records, entries))
 }
 
 fn counts_within(image: &[u8]) -> bool

@@ -7,13 +7,16 @@
 mod formed;
 mod header;
 mod number;
+mod places;
 mod records;
 
 pub use formed::well_formed;
 pub use header::header_formed;
 pub use number::put_number;
 pub use number::read_number;
-pub use records::record_at;
+pub use places::journal_at;
+pub use places::pool_at;
+pub use places::record_at;
 pub use records::status_of;
 
 pub const HEADER_SIZE: usize = 76;

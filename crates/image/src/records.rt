@@ -1,21 +1,20 @@
 // The records of an image, where its header is as it should be.
 use super::ACTIVE;
 use super::END_IN_RECORD;
-use super::HEADER_SIZE;
 use super::ISSUED_AT;
 use super::LENGTH_IN_RECORD;
 use super::OFFSET_IN_RECORD;
 use super::POOL_OFFSET_AT;
 use super::POOL_USED_AT;
-use super::RECORD_SIZE;
 use super::REFERENCE_LENGTH_AT;
 use super::STATUS_IN_RECORD;
 use super::number::read_number;
+use super::places::record_at;
 use letters::first_foreign;
 ghost use mathlib.Core.Path.{_≡_};
 ghost use mathlib.Core.Bool.{false, cond};
 ghost use mathlib.Core.List.{[], _∷_};
-ghost use Prim.Native.Nat.{_+_, _*_, _≤_};
+ghost use Prim.Native.Nat.{_+_, _≤_};
 ghost use lib.Dec.{leb, eqb};
 ghost use lib.ListN.{length};
 ghost use Rattle.stretch.specs.Below.{below};
@@ -23,17 +22,10 @@ ghost use Rattle.stretch.specs.Part.{part};
 ghost use Rattle.stretch.specs.Class.{every};
 ghost use Rattle.letters.specs.Letters.{residue};
 ghost use Rattle.image.specs.Numbers.{number};
-ghost use Rattle.image.specs.Fields.{headerSize, recordSize, countLimit, issued, poolUsed, poolOffset, recordPlace, endInRecord, offsetInRecord, statusInRecord, statusOf, active};
+ghost use Rattle.image.specs.Fields.{issued, poolUsed, poolOffset, endInRecord, offsetInRecord, statusInRecord};
+ghost use Rattle.image.specs.Fields.{statusOf, active};
 ghost use Rattle.image.specs.Formed.{all, lengths, recordGood};
 ghost use Rattle.image.specs.Header.{Header};
-
-// The place of a record, by its number.
-pub fn record_at(number: usize) -> usize
-    requires { ⌜ (1 ≤ number) × (number ≤ countLimit) ⌝ }
-    ensures { λ r. ⌜ (r ≡ recordPlace number) × (r + recordSize ≡ headerSize + recordSize * number) ⌝ }
-{
-    HEADER_SIZE + RECORD_SIZE * (number - 1)
-}
 
 // The status of a number that was issued.
 pub fn status_of(image: &[u8], number: usize) -> usize
@@ -46,7 +38,7 @@ pub fn status_of(image: &[u8], number: usize) -> usize
 
 // The tests of the record at a place but for its residues, where `before` residues stand before them.
 fn record_placed(image: &[u8], at: usize, reference: usize, before: usize) -> bool
-    requires { ⌜ at + recordSize ≤ length (now image) ⌝ }
+    requires { ⌜ at + statusInRecord + 4 ≤ length (now image) ⌝ }
     ensures { λ r. ⌜ r ≡ all (
         leb (number (now (image .entry)) at) (number (now (image .entry)) (at + endInRecord))
         ∷ leb (number (now (image .entry)) (at + endInRecord)) reference

@@ -4,19 +4,14 @@ use native.Mathlib.Omega.{arith}
 use mathlib.Core.Path.{_≡_, _∙_}
 use mathlib.Core.Bool.{true}
 use mathlib.Core.List.{List}
-use lib.ListN.{length}
 use Rattle.image.specs.Numbers.{number, put}
-use Rattle.image.specs.Fields.{headerSize, recordSize, entrySize, countLimit, issued, journalOffset, journalCount, journalCountPlace, statusOf}
+use Rattle.image.specs.Fields.{entrySize, issued, journalOffset, journalCount, journalCountPlace, statusOf}
 use Rattle.image.specs.Formed.{wellFormed}
-use Rattle.image.specs.Header.{Header}
 use Rattle.image.proofs.WellFormed.{formed}
 use Rattle.changes.specs.Changes.{marked, latest, undone}
 
--- a record of an issued number lies in the image
-pub issued-room : (b : List ℕ) → Header b → (n : ℕ) → n ≤ issued b → (n ≤ countLimit) × (headerSize + recordSize * n ≤ length b)
-issued-room b h n l = (omega (arith, h .records, h .records-limit), omega (arith, h .records, h .pool, h .whole))
-
-module _ (b : List ℕ) (w : wellFormed b ≡ true) (count at n : ℕ) (e : count ≡ journalCount b) (some : count ≡ 0 → ⊥) (a : at ≡ journalOffset b)
+module _ (b : List ℕ) (w : wellFormed b ≡ true) (count at n : ℕ) (e : count ≡ journalCount b) (some : count ≡ 0 → ⊥)
+    (a : at ≡ journalOffset b)
     (i : n ≡ number b (at + entrySize * (count - 1))) where
   pub latest-read : n ≡ latest b
   unfolding latest

@@ -20,7 +20,7 @@ write-header-requires : tie.Need-write-header-requires
 write-header-requires c κs =
     let e = sym (c .before .enum-told .given .1) ∙ c .before .before .before .check-blank .ensures in
     let k = blankable _ _ _ _ _ _ (outcome-accepted (verdict (blankGrounds _ _ _ _ _ _)) e) in
-    ((omega (arith, k .fits), k .long), (k .records-limit, k .journal-limit))
+    ((k .headed, k .long), (k .records-limit, k .journal-limit))
 
 enum-known-why : tie.Need-enum-known-why
 enum-known-why c = search needs

@@ -28,42 +28,34 @@ returns-3 c =
           (c .before .if3 .taken),
     ))
 
-mul-size : tie.Need-mul-size
-mul-size c = search needs
+pool-at-requires : tie.Need-pool-at-requires
+pool-at-requires c κs = search needs
 
 add-size : tie.Need-add-size
 add-size c = search needs
-
-mul-size-2 : tie.Need-mul-size-2
-mul-size-2 c = search needs
-
-add-size-2 : tie.Need-add-size-2
-add-size-2 c = search needs
-
-add-size-3 : tie.Need-add-size-3
-add-size-3 c = search needs
 
 refuse-requires-4 : tie.Need-refuse-requires-4
 refuse-requires-4 c κs = search needs
 
 returns-4 : tie.Need-returns-4
 returns-4 c =
-    rw (c .refuse4 .ensures) (simp (
-      le-ltb _ _ (c .before .before .before .before .if1 .left),
-      le-ltb _ _
-          (c .before .before .before .if2 .left),
-      le-ltb _ _ (c .before .before .if3 .left),
+    let p = c .before .before in
+    rw (c .refuse4 .ensures, ← p .pool-at .ensures .0) (simp (
+      le-ltb _ _ (p .before .before .before .if1 .left),
+      le-ltb _ _ (p .before .before .if2 .left),
+      le-ltb _ _ (p .before .if3 .left),
       lt-ltb _ _ (c .before .if4 .taken),
     ))
 
 returns-5 : tie.Need-returns-5
 returns-5 c =
-    simp (
-      le-ltb _ _ (c .before .before .before .if1 .left),
-      le-ltb _ _ (c .before .before .if2 .left),
-      le-ltb _ _ (c .before .if3 .left),
+    let p = c .before in
+    rw (← p .pool-at .ensures .0) (simp (
+      le-ltb _ _ (p .before .before .before .if1 .left),
+      le-ltb _ _ (p .before .before .if2 .left),
+      le-ltb _ _ (p .before .if3 .left),
       le-ltb _ _ (c .if4 .left),
-    )
+    ))
 
 pub check-capacities-spec : {M : Type 1} → statement M
 check-capacities-spec =
@@ -75,11 +67,8 @@ check-capacities-spec =
     returns-2
     refuse-requires-3
     returns-3
-    mul-size
+    pool-at-requires
     add-size
-    mul-size-2
-    add-size-2
-    add-size-3
     refuse-requires-4
     returns-4
     returns-5)

@@ -3,6 +3,7 @@ use Prim.Native.Nat.{ℕ, _+_}
 use native.Mathlib.Omega.{arith}
 use mathlib.Core.Path.{ap}
 use borrow.Author.Needs.{needs}
+use Rattle.image.proofs.Arranged.{status-inside}
 use Rattle.changes.proofs.Rows.{numbered-as}
 use Rattle.changes.proofs.write.number_form.Statement.{statement}
 use Rattle.changes.proofs.write.number_form.Tie as tie
@@ -29,7 +30,13 @@ record-at-requires : tie.Need-record-at-requires
 record-at-requires c κs = search needs
 
 put-record-requires : tie.Need-put-record-requires
-put-record-requires c κs = search needs
+put-record-requires c κs =
+    let r = c .before .before .before .before .before .before .before .before .before .before in
+    let s = r .before .before .before .before .before .before in
+    let next = r .read-number .result + 1 in
+    let read = r .read-number .ensures .0 in
+    let inside = status-inside _ (s .pre .0) next (omega arith) (omega (arith, read, s .pre .1 .1 .0)) in
+    omega (arith, c .record-at .ensures .0, inside)
 
 add-put-replacement : tie.Need-add-put-replacement
 add-put-replacement c = search needs
@@ -51,12 +58,11 @@ journal-requires c κs =
     let p = s .pre .1 .1 in
     let at = t .before .before .read-number4 .ensures .0 in
     let count = t .read-number5 .ensures .0 in (
-      omega (arith, h .journal, at),
+      omega (arith, h .after-header, at),
       omega (arith, p .2, h .journal-limit, count),
       omega (
         arith,
         p .2,
-        h .journal,
         h .pool,
         h .whole,
         at,

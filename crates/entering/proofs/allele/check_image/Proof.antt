@@ -25,7 +25,9 @@ part-equal-start : tie.Need-part-equal-start
 part-equal-start c = search needs
 
 part-equal-end : tie.Need-part-equal-end
-part-equal-end c = let h = formed _ (sym (c .before .well-formed .ensures) ∙ not-false _ (c .if1 .left)) .header in omega (arith, h .pool, h .whole)
+part-equal-end c =
+    let h = formed _ (sym (c .before .well-formed .ensures) ∙ not-false _ (c .if1 .left)) .header in
+    omega (arith, h .after-header, h .pool, h .whole)
 
 equal-requires : tie.Need-equal-requires
 equal-requires c κs = search needs
@@ -46,7 +48,7 @@ returns-2 c =
 read-number-requires : tie.Need-read-number-requires
 read-number-requires c κs =
     let h = formed _ (sym (c .before .before .before .before .well-formed .ensures) ∙ not-false _
-    (c .before .before .before .if1 .left)) .header in omega (arith, h .pool, h .whole)
+    (c .before .before .before .if1 .left)) .header in omega (arith, h .after-header, h .pool, h .whole)
 
 refuse-requires-3 : tie.Need-refuse-requires-3
 refuse-requires-3 c κs = search needs

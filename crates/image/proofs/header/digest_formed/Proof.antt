@@ -26,7 +26,8 @@ sub-result c = search needs
 returns : tie.Need-returns
 returns c =
     let b = c .before .before .before .args .image .now in
-    rw (c .first-outside-base64url .ensures) (outside-end base64url (sequenceDigest b) 32 (length-part b digestPlace headerSize (omega arith) (omega arith)))
+    rw (c .first-outside-base64url .ensures)
+    (outside-end base64url (sequenceDigest b) 32 (length-part b digestPlace headerSize (omega arith) (omega arith)))
 
 pub digest-formed-spec : {M : Type 1} → statement M
 digest-formed-spec =

@@ -40,7 +40,8 @@ returns c =
       c .before .read-number3 .ensures .0,
       c .read-number4 .ensures .0,
     )
-    (all-four (leb (number b (s .at)) end) (leb end (s .reference)) (leb (number b (s .at + statusInRecord)) active) (eqb (number b (s .at + offsetInRecord)) (s .before)))
+    (all-four (leb (number b (s .at)) end) (leb end (s .reference)) (leb (number b (s .at + statusInRecord)) active)
+    (eqb (number b (s .at + offsetInRecord)) (s .before)))
 
 pub record-placed-spec : {M : Type 1} → statement M
 record-placed-spec =

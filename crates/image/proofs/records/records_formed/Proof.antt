@@ -1,5 +1,5 @@
 -- The loop's invariant: the records passed are placed, and their lengths are summed.
-use Prim.Native.Nat.{_*_, _-_, _^_, _≤_}
+use Prim.Native.Nat.{_+_, _*_, _-_, _^_, _≤_}
 use native.Mathlib.Numerals.{add-one}
 use native.Mathlib.Omega.{arith}
 use mathlib.Core.Path.{_≡_, refl, _∙_, sym}
@@ -10,6 +10,7 @@ use Rattle.stretch.specs.Below.{below}
 use Rattle.stretch.proofs.Below.{below-next}
 use Rattle.image.specs.Fields.{issued}
 use Rattle.image.specs.Formed.{lengths}
+use Rattle.image.proofs.Arranged.{status-inside}
 use Rattle.image.proofs.Pool.{placed, placed-at, lengths-next, records-bad, records-end}
 use Rattle.image.proofs.records.records_formed.Statement.{statement}
 use Rattle.image.proofs.records.records_formed.Tie as tie
@@ -38,7 +39,13 @@ record-at-requires : tie.Need-record-at-requires Inv-loop μ-loop
 record-at-requires c κs = search needs
 
 record-placed-requires : tie.Need-record-placed-requires Inv-loop μ-loop
-record-placed-requires c κs = search needs
+record-placed-requires c κs =
+    let l = c .before .before in
+    let s = l .before .before .before .before in
+    let count = l .before .before .read-number .ensures .0 in
+    let inside = status-inside (s .args .image .now) (s .pre) (l .loop .passed + 1) (omega arith)
+    (omega (arith, count, s .pre .records)) in
+    omega (arith, c .record-at .ensures .0, inside)
 
 returns : tie.Need-returns Inv-loop μ-loop
 returns c =
@@ -52,7 +59,13 @@ add-read-number : tie.Need-add-read-number Inv-loop μ-loop
 add-read-number c = search needs
 
 read-number-requires-3 : tie.Need-read-number-requires-3 Inv-loop μ-loop
-read-number-requires-3 c κs = search needs
+read-number-requires-3 c κs =
+    let l = c .before .before .before .before in
+    let s = l .before .before .before .before in
+    let count = l .before .before .read-number .ensures .0 in
+    let inside = status-inside (s .args .image .now) (s .pre) (l .loop .passed + 1) (omega arith)
+    (omega (arith, count, s .pre .records)) in
+    omega (arith, c .before .before .record-at .ensures .0, inside)
 
 add-letters : tie.Need-add-letters Inv-loop μ-loop
 add-letters c = search needs

@@ -1,7 +1,9 @@
 -- The three tests, in order.
+use native.Mathlib.Omega.{arith}
 use mathlib.Core.Path.{sym}
 use borrow.Author.Needs.{needs}
 use borrow.Author.Tests.{eq-eqb, ne-eqb}
+use Rattle.image.proofs.Arranged.{issued-inside}
 use Rattle.image.proofs.Tests.{all-one}
 use Rattle.lookup.proofs.find.holds_numbers.Statement.{statement}
 use Rattle.lookup.proofs.find.holds_numbers.Tie as tie
@@ -13,13 +15,18 @@ add-read-number : tie.Need-add-read-number
 add-read-number c = search needs
 
 read-number-requires : tie.Need-read-number-requires
-read-number-requires c κs = search needs
+read-number-requires c κs =
+    let s = c .before .before in
+    omega (arith, c .record-at .ensures .0, issued-inside _ (s .pre .0) _ (s .pre .1))
 
 returns : tie.Need-returns
 returns c = rw (← c .before .before .record-at .ensures .0, ← c .before .read-number .ensures .0, ne-eqb _ _ (c .if1 .taken))
 
 read-number-requires-2 : tie.Need-read-number-requires-2
-read-number-requires-2 c κs = search needs
+read-number-requires-2 c κs =
+    let k = c .before .before in
+    let s = k .before .before in
+    omega (arith, k .record-at .ensures .0, issued-inside _ (s .pre .0) _ (s .pre .1))
 
 returns-2 : tie.Need-returns-2
 returns-2 c =
@@ -31,7 +38,10 @@ add-read-number-2 : tie.Need-add-read-number-2
 add-read-number-2 c = search needs
 
 read-number-requires-3 : tie.Need-read-number-requires-3
-read-number-requires-3 c κs = search needs
+read-number-requires-3 c κs =
+    let k = c .before .before .before .before in
+    let s = k .before .before in
+    omega (arith, k .record-at .ensures .0, issued-inside _ (s .pre .0) _ (s .pre .1))
 
 returns-3 : tie.Need-returns-3
 returns-3 c =

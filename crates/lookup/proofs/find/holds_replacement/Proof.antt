@@ -4,6 +4,7 @@ use mathlib.Core.Path.{_∙_, sym}
 use lib.ListN.{length-append}
 use borrow.Author.Needs.{needs}
 use Rattle.image.specs.Fields.{replacementOf}
+use Rattle.image.proofs.Arranged.{issued-inside}
 use Rattle.lookup.proofs.Held.{replacement-inside, replacement-apart}
 use Rattle.lookup.proofs.find.holds_replacement.Statement.{statement}
 use Rattle.lookup.proofs.find.holds_replacement.Tie as tie
@@ -15,7 +16,9 @@ add-read-number : tie.Need-add-read-number
 add-read-number c = search needs
 
 read-number-requires : tie.Need-read-number-requires
-read-number-requires c κs = search needs
+read-number-requires c κs =
+    let s = c .before .before .before .before .before in
+    omega (arith, c .record-at .ensures .0, issued-inside _ (s .pre .0) _ (s .pre .1 .1 .0))
 
 returns : tie.Need-returns
 returns c =
@@ -31,7 +34,10 @@ add-read-number-2 : tie.Need-add-read-number-2
 add-read-number-2 c = search needs
 
 read-number-requires-3 : tie.Need-read-number-requires-3
-read-number-requires-3 c κs = search needs
+read-number-requires-3 c κs =
+    let k = c .before .before .before in
+    let s = k .before .before .before .before .before in
+    omega (arith, k .record-at .ensures .0, issued-inside _ (s .pre .0) _ (s .pre .1 .1 .0))
 
 add-from : tie.Need-add-from
 add-from c = search needs

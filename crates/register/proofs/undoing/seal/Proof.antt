@@ -26,7 +26,7 @@ returns c = keeps-refused _ _ _ _ _ _ (rw (c .refuse .ensures, sym (c .before .b
 put-number-requires : tie.Need-put-number-requires
 put-number-requires c κs =
     let h = formed _ (sym (c .before .before .well-formed .ensures) ∙ not-false _ (c .before .if1 .left)) .header in
-    omega (arith, h .pool, h .whole)
+    omega (arith, h .after-header, h .pool, h .whole)
 
 same-length-2 : tie.Need-same-length-2
 same-length-2 c = search needs

@@ -5,7 +5,7 @@ use borrow.Author.Needs.{needs}
 use Rattle.register.specs.declared.Undone.the-variants.{Number}
 use Rattle.register.specs.Calls.{undoGrounds, Undoes}
 use Rattle.refusal.proofs.Keeps.{keeps-refused, keeps-accepted}
-use Rattle.register.proofs.Latest.{issued-room, latest-read, latest-issued, latest-undone}
+use Rattle.register.proofs.Latest.{latest-read, latest-issued, latest-undone}
 use Rattle.register.proofs.undoing.undo_latest.Statement.{statement}
 use Rattle.register.proofs.undoing.undo_latest.Tie as tie
 
@@ -57,8 +57,7 @@ mark-requires c κs =
     let t = r .before .before .before .before in
     let s = t .before .before .before .before in
     let l = latest-issued _ (s .pre .1) _ _ _ (t .before .read-number .ensures .0) (t .if1 .left) (r .before .before .read-number2 .ensures .0) (r .read-number3 .ensures .0) in
-    let room = issued-room _ (s .pre .0) _ (l .1) in
-    (l .0, room .0, room .1)
+    (s .pre .0, l)
 
 sub-put-number : tie.Need-sub-put-number
 sub-put-number c = search needs

@@ -2,9 +2,9 @@
 use borrow.Author.Needs.{needs}
 use native.Mathlib.Omega.{arith}
 use mathlib.Core.Path.{refl}
-use Rattle.image.specs.Fields.{recordPlace}
-use Rattle.image.proofs.records.record_at.Statement.{statement}
-use Rattle.image.proofs.records.record_at.Tie as tie
+use Rattle.image.specs.Fields.{recordSize, recordPlace}
+use Rattle.image.proofs.places.record_at.Statement.{statement}
+use Rattle.image.proofs.places.record_at.Tie as tie
 
 sub-result : tie.Need-sub-result
 sub-result c = search needs
@@ -16,7 +16,7 @@ add-result : tie.Need-add-result
 add-result c = search needs
 
 returns : tie.Need-returns
-unfolding recordPlace
+unfolding recordPlace recordSize
 returns c = (refl, omega arith)
 
 pub record-at-spec : {M : Type 1} → statement M
