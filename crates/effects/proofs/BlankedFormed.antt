@@ -8,7 +8,7 @@ use mathlib.Core.List.{List}
 use lib.ListN.{length}
 use Rattle.refusal.specs.Limits.{referenceLimit}
 use Rattle.stretch.specs.Class.{every}
-use Rattle.letters.specs.Letters.{base64url, every}
+use Rattle.letters.specs.Letters.{base64url}
 use Rattle.image.specs.Fields.{countLimit, poolLimit, poolPlace, issued, poolUsed, journalPlace}
 use Rattle.image.specs.Formed.{lengths, wellFormed}
 use Rattle.image.specs.Header.{Header}

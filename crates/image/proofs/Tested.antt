@@ -9,8 +9,8 @@ use lib.ListN.{length}
 use borrow.Author.Tests.{leb-true, eqb-true}
 use Rattle.stretch.specs.Below.{below}
 use Rattle.stretch.specs.Class.{every}
-use Rattle.letters.specs.Letters.{base64url, every}
-use Rattle.image.specs.Fields.{headerSize, edition, issued, recordsAt, journalCount, poolCapacity, poolUsed, poolAt, sequenceDigest, firstEdition, recordsOffset, poolOffset, journalPlace, poolPlace, recordCapacity, journalCapacity, journalOffset}
+use Rattle.letters.specs.Letters.{base64url}
+use Rattle.image.specs.Fields.{headerSize, edition, issued, journalCount, poolCapacity, poolUsed, sequenceDigest, firstEdition, recordsOffset, poolOffset, journalPlace, poolPlace, recordCapacity, journalCapacity, journalOffset}
 use Rattle.image.specs.Formed.{all, laidOut, countsWithin, withinLimits, lengths, recordGood, entryGood, wellFormed, headerFormed}
 use Rattle.image.specs.Header.{Header}
 use Rattle.image.proofs.Arranged.{header-journal, journal-pool}

@@ -9,8 +9,8 @@ use lib.ListN.{length}
 use borrow.Author.Tests.{leb-true, le-leb, eqb-true, eq-eqb}
 use Rattle.stretch.proofs.Below.{below-at, below-all}
 use Rattle.stretch.specs.Class.{every}
-use Rattle.letters.specs.Letters.{residue, base64url, every}
-use Rattle.image.specs.Fields.{headerSize, edition, issued, recordsAt, journalCount, poolUsed, referenceLength, sequenceDigest, startOf, endOf, offsetOf, statusOf, replacementOf, entryOf, firstEdition, active, recordsOffset, poolPlace, recordCapacity, journalCapacity, poolOffset}
+use Rattle.letters.specs.Letters.{residue, base64url}
+use Rattle.image.specs.Fields.{headerSize, edition, issued, journalCount, poolUsed, referenceLength, sequenceDigest, startOf, endOf, offsetOf, statusOf, replacementOf, entryOf, firstEdition, active, recordsOffset, poolPlace, recordCapacity, journalCapacity, poolOffset}
 use Rattle.image.specs.Formed.{laidOut, countsWithin, withinLimits, lengths, recordGood, entryGood, wellFormed, headerFormed}
 use Rattle.image.specs.Header.{Header}
 use Rattle.image.proofs.Arranged.{journal-pool}

@@ -7,8 +7,8 @@ use lib.ListN.{length}
 use Rattle.stretch.specs.Below.{below}
 use Rattle.refusal.specs.Limits.{referenceLimit}
 use Rattle.stretch.specs.Class.{every}
-use Rattle.letters.specs.Letters.{residue, base64url, every}
-use Rattle.image.specs.Fields.{headerSize, countLimit, poolLimit, journalPlace, poolPlace, edition, recordCapacity, issued, recordsAt, journalCapacity, journalCount, journalAt, poolCapacity, poolUsed, poolAt, referenceLength, sequenceDigest, startOf, endOf, offsetOf, lengthOf, statusOf, replacementOf, entryOf, firstEdition, active, recordsOffset, journalOffset, poolOffset}
+use Rattle.letters.specs.Letters.{residue, base64url}
+use Rattle.image.specs.Fields.{headerSize, countLimit, poolLimit, journalPlace, poolPlace, edition, recordCapacity, issued, journalCapacity, journalCount, poolCapacity, poolUsed, referenceLength, sequenceDigest, startOf, endOf, offsetOf, lengthOf, statusOf, replacementOf, entryOf, firstEdition, active, recordsOffset, journalOffset, poolOffset}
 
 -- all of the tests pass
 abbrev pub all : List Bool → Bool

@@ -24,8 +24,8 @@ ghost use Prim.Native.Nat.{_+_, _≤_};
 ghost use lib.Dec.{leb};
 ghost use lib.ListN.{length};
 ghost use Rattle.stretch.specs.Class.{every};
-ghost use Rattle.letters.specs.Letters.{base64url, every};
-ghost use Rattle.image.specs.Fields.{headerSize, poolAt, poolCapacity, sequenceDigest, poolOffset};
+ghost use Rattle.letters.specs.Letters.{base64url};
+ghost use Rattle.image.specs.Fields.{headerSize, poolCapacity, sequenceDigest, poolOffset};
 ghost use Rattle.image.specs.Formed.{all, laidOut, countsWithin, withinLimits, headerFormed};
 
 const REFERENCE_LIMIT: usize = refusal::REFERENCE_LIMIT as usize;

@@ -4,7 +4,8 @@ use borrow.Author.Tests.{le-leb}
 use Prim.Native.Nat.{_+_}
 use lib.Dec.{leb}
 use lib.ListN.{length}
-use Rattle.letters.specs.Letters.{base64url, every}
+use Rattle.letters.specs.Letters.{base64url}
+use Rattle.stretch.specs.Class.{every}
 use Rattle.image.specs.Fields.{poolOffset, poolCapacity, sequenceDigest}
 use Rattle.image.specs.Formed.{laidOut, countsWithin, withinLimits, headerFormed}
 use Rattle.image.proofs.Tests.{all-five}

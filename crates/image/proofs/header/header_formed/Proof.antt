@@ -4,8 +4,8 @@ use Prim.Native.Nat.{_+_}
 use lib.Dec.{leb}
 use lib.ListN.{length}
 use Rattle.stretch.specs.Class.{every}
-use Rattle.letters.specs.Letters.{base64url, every}
-use Rattle.image.specs.Fields.{poolAt, poolCapacity, sequenceDigest, poolOffset}
+use Rattle.letters.specs.Letters.{base64url}
+use Rattle.image.specs.Fields.{poolCapacity, sequenceDigest, poolOffset}
 use Rattle.image.specs.Formed.{laidOut, countsWithin, withinLimits, headerFormed}
 use Rattle.image.proofs.Tests.{all-five}
 use borrow.Author.Tests.{lt-leb}
