@@ -121,36 +121,50 @@ module _ (r : List ℕ) (start end : ℕ) (x : List ℕ) (allele : Allele r star
   g : end ≤ length r
   g = allele .inside
 
-  fits-changed : Fits r start end x (changedStretches r start end x (altered r start end x))
-  unfolding changedStretches spread
+  fits-changed : Fits r x (changedStretches r start end x (altered r start end x))
+  unfolding changedStretches spread ahead behind
   fits-changed =
-      let t = altered r start end x in
       record {
         allele = allele;
         before = omega arith;
-        ordered = omega (arith, ahead-front r start end x h g, behind-back r start end x h g, reach-both r start end x h g);
-        given = omega arith;
+        ordered = omega (
+          arith,
+          ahead-front r start end x h g,
+          behind-back r start end x h g,
+          reach-both r start end x h g,
+        );
+        kept = omega arith;
         after = omega arith;
         inside = omega (arith, g);
       }
 
-  fits-given : Fits r start end x (asGiven start end (length x))
+  fits-given : Fits r x (asGiven start end (length x))
   unfolding asGiven
-  fits-given = record { allele = allele; before = omega arith; ordered = omega arith; given = omega arith; after = omega arith; inside = g }
+  fits-given =
+      record {
+        allele = allele;
+        before = omega arith;
+        ordered = omega arith;
+        kept = omega arith;
+        after = omega arith;
+        inside = g;
+      }
 
   -- the stretches lie in range
-  pub stretches-fit : Fits r start end x (stretchesOf r start end x)
+  pub stretches-fit : Fits r x (stretchesOf r start end x)
   unfolding stretchesOf
   stretches-fit = by-cases (same r (altered r start end x)) (λ e. rw e fits-given) (λ e. rw e fits-changed)
 
-  joins-changed : formIn r start end x (changedStretches r start end x (altered r start end x)) ≡ changedForm r (altered r start end x)
-  unfolding joined changedStretches spread changedForm
+  joins-changed : formIn r x (changedStretches r start end x (altered r start end x))
+      ≡ changedForm r (altered r start end x)
+  unfolding joined changedStretches spread changedForm kindOf ahead behind
   joins-changed =
       let t = altered r start end x in
       ap (λ (l : List ℕ). record { kind = kindOf r t; start = ahead r t; end = length r - behind r t; replacement = l })
-      (pieces-join r start end x (ahead r t) (behind r t) h g (ahead-front r start end x h g) (behind-back r start end x h g) (reach-both r start end x h g))
+      (pieces-join r start end x (ahead r t) (behind r t) h g
+      (ahead-front r start end x h g) (behind-back r start end x h g) (reach-both r start end x h g))
 
-  joins-given : joined r start end x (asGiven start end (length x)) ≡ x
+  joins-given : joined r x (asGiven start end (length x)) ≡ x
   unfolding joined asGiven
   joins-given =
       let s : start - start ≡ 0 = omega arith in
@@ -158,12 +172,13 @@ module _ (r : List ℕ) (start end : ℕ) (x : List ℕ) (allele : Allele r star
       let z : length x - 0 ≡ length x = omega arith in
       rw (s, e, z, take-length x) (append-nil x)
 
-  unchanged : formIn r start end x (asGiven start end (length x)) ≡ record { kind = Unchanged; start = start; end = end; replacement = x }
+  unchanged : formIn r x (asGiven start end (length x))
+      ≡ record { kind = Unchanged; start = start; end = end; replacement = x }
   unfolding asGiven
   unchanged = ap (λ (l : List ℕ). record { kind = Unchanged; start = start; end = end; replacement = l }) joins-given
 
   -- and hold the normal form: they join to its replacement
-  pub stretches-join : formIn r start end x (stretchesOf r start end x) ≡ normal r start end x
+  pub stretches-join : formIn r x (stretchesOf r start end x) ≡ normal r start end x
   unfolding stretchesOf normal
   stretches-join =
       by-cases (same r (altered r start end x))

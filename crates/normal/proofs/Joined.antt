@@ -1,35 +1,43 @@
 -- Three stretches as one text: its length, and its first foreign byte.
 use Prim.Native.Nat.{ℕ, _+_, _-_, _<_, _≤_}
 use native.Mathlib.Omega.{arith}
-use mathlib.Core.Path.{_≡_, refl, _∙_, sym, ap}
+use mathlib.Core.Path.{_≡_, _∙_, sym, ap}
 use mathlib.Core.List.{List, _++_}
-use lib.ListN.{length, length-append}
-use Rattle.stretch.specs.Part.{part}
+use lib.ListN.{length}
 use Rattle.stretch.proofs.Interval.{length-part}
 use Rattle.stretch.proofs.Join.{length-three}
 use Rattle.letters.specs.Letters.{residue, foreign}
 use Rattle.stretch.proofs.Outside.{firstOutside-past, firstOutside-within}
 use Rattle.letters.proofs.Foreign.{foreign-le, foreign-none}
 use Rattle.normal.specs.declared.Stretches.{Stretches}
-use Rattle.normal.specs.Stretches.{Fits, joined}
+use Rattle.normal.specs.Stretches.{Fits, referenceBefore, replacementKept, referenceAfter, joined, joinedLength}
 
-pub length-joined : (r : List ℕ) (start end : ℕ) (x : List ℕ) (w : Stretches) → Fits r start end x w
-    → start - w .left + (w .to - w .from) + (w .right - end) ≡ length (joined r start end x w)
+-- the three as they are lent, one text
+pub pieces-joined : (r x : List ℕ) (w : Stretches) {a b c : List ℕ}
+    → a ≡ referenceBefore r w → b ≡ replacementKept x w → c ≡ referenceAfter r w → a ++ (b ++ c) ≡ joined r x w
 unfolding joined
-length-joined r start end x w f =
-    let one : length (part r (w .left) start) ≡ start - w .left = length-part r (w .left) start (f .before) (omega (arith, f .allele .ordered, f .allele .inside)) in
-    let two : length (part x (w .from) (w .to)) ≡ w .to - w .from = length-part x (w .from) (w .to) (f .ordered) (f .given) in
-    let three : length (part r end (w .right)) ≡ w .right - end = length-part r end (w .right) (f .after) (f .inside) in
-    sym (length-append (part r (w .left) start) (part x (w .from) (w .to) ++ part r end (w .right))
-    ∙ rw (length-append (part x (w .from) (w .to)) (part r end (w .right)), one, two, three) (omega arith))
+pieces-joined r x w first second third = rw (first, second, third)
 
--- stretch by stretch, as the code sums it up
-pub stretches-long : (r : List ℕ) (start end : ℕ) (x : List ℕ) (w : Stretches) → Fits r start end x w → (n : ℕ)
-    → n ≡ start - w .left + (w .to - w .from) + (w .right - end)
-    → n ≡ length (part r (w .left) start) + (length (part x (w .from) (w .to)) + length (part r end (w .right)))
-unfolding joined
-stretches-long r start end x w f n e =
-    e ∙ length-joined r start end x w f ∙ length-three (part r (w .left) start) (part x (w .from) (w .to)) (part r end (w .right)) _ refl
+-- which is as long as the code sums it up
+module _ (r x : List ℕ) (w : Stretches) (f : Fits r x w) where
+  three-long : length (referenceBefore r w) + (length (replacementKept x w) + length (referenceAfter r w))
+      ≡ joinedLength w
+  three-long =
+      let one : length (referenceBefore r w) ≡ w .given .start - w .left
+      = length-part r (w .left) (w .given .start) (f .before) (omega (arith, f .allele .ordered, f .allele .inside)) in
+      let two : length (replacementKept x w) ≡ w .to - w .from
+      = length-part x (w .from) (w .to) (f .ordered) (f .kept) in
+      let three : length (referenceAfter r w) ≡ w .right - w .given .end
+      = length-part r (w .given .end) (w .right) (f .after) (f .inside) in
+      rw (one, two, three) (omega arith)
+
+  pub length-joined : joinedLength w ≡ length (joined r x w)
+  unfolding joined
+  length-joined = sym (length-three (referenceBefore r w) (replacementKept x w) (referenceAfter r w) _ (sym three-long))
+
+  pub pieces-long : {a b c : List ℕ} → a ≡ referenceBefore r w → b ≡ replacementKept x w → c ≡ referenceAfter r w
+      → length a + (length b + length c) ≡ joinedLength w
+  pieces-long first second third = rw (first, second, third) three-long
 
 module _ (a b c : List ℕ) where
   pub foreign-first : foreign a < length a → foreign a ≡ foreign (a ++ (b ++ c))

@@ -14,9 +14,8 @@ use Rattle.stretch.proofs.Interval.{part-between}
 use Rattle.stretch.proofs.Same.{same-refl, same-eq}
 use Rattle.stretch.proofs.Suffix.{lcs-le-left}
 use Rattle.stretch.proofs.Tail.{lent-tail}
-use Rattle.normal.specs.declared.Kind.{Kind}
-use Rattle.normal.specs.Form.{altered, shorter, within, ahead, behind, kindIn, kindOf}
-use Rattle.normal.specs.Stretches.{spread, changedStretches}
+use Rattle.normal.specs.declared.Outline.{Outline}
+use Rattle.normal.specs.Form.{altered, shorter, behind, outlineIn, outline}
 use Rattle.normal.proofs.Flanks.{length-altered, lcp-flank, lcs-flank}
 use Rattle.normal.proofs.Laws.{behind-le}
 use Rattle.normal.proofs.Reach.{behind-back}
@@ -32,7 +31,7 @@ module _ (r : List ℕ) (start end : ℕ) (x : List ℕ) (h : start ≤ end) (g 
       let s : start - 0 ≡ start = omega arith in
       rw (e, d, s) (sym (lcs-flank r start end x))
 
-  pub spot-k : min (length r) (start + length x + (length r - end)) ≡ shorter r (altered r start end x)
+  spot-k : min (length r) (start + length x + (length r - end)) ≡ shorter r (altered r start end x)
   unfolding shorter
   spot-k = rw (length-altered r start end x h g)
 
@@ -57,16 +56,15 @@ module _ (r : List ℕ) (start end : ℕ) (x : List ℕ) (h : start ≤ end) (g 
       (λ d. let z : same (part r start end) x ≡ true = rw (altered-given (same-eq r (altered r start end x) d)) (same-refl x) in d ∙ sym z)
       (λ d. d ∙ sym e))
 
-  -- the numbers that the engine lays out
-  module _ (k p q : ℕ) (ek : k ≡ shorter r (altered r start end x)) (ep : p ≡ lcp r (altered r start end x)) (eq : q ≡ lcs r (altered r start end x)) where
-    pub justified : (kind : Kind) (a b : ℕ) → kind ≡ kindIn k p q → a ≡ within k q p → b ≡ within k p q
-        → spread kind (length r) (length x) start end a b ≡ changedStretches r start end x (altered r start end x)
-    unfolding changedStretches kindOf ahead behind
-    justified kind a b f d c = rw (f, d, c, ek, ep, eq)
+  -- the outline that the engine lays out
+  pub spot-outline : (p q : ℕ) → p ≡ lcp r (altered r start end x) → q ≡ lcs r (altered r start end x)
+      → outlineIn (min (length r) (start + length x + (length r - end))) p q ≡ outline r (altered r start end x)
+  spot-outline p q ep eq = rw (spot-k, ep, eq)
 
-    pub rolls-fit : (b : ℕ) → b ≡ within k p q → (b ≤ length r) × (end ≤ length r) × (b - (length r - end) ≤ length x)
-    unfolding behind
-    rolls-fit b c =
-        let t = altered r start end x in
-        let d : b ≡ behind r t = rw (c, ek, ep, eq) in
-        (omega (arith, behind-le r t, lcs-le-left r t), g, omega (arith, behind-back r start end x h g))
+  pub outline-fits : (o : Outline) → o ≡ outline r (altered r start end x)
+      → (o .b ≤ length r) × (end ≤ length r) × (o .b - (length r - end) ≤ length x)
+  unfolding behind
+  outline-fits o e =
+      let t = altered r start end x in
+      let d : o .b ≡ behind r t = rw e in
+      (omega (arith, behind-le r t, lcs-le-left r t), g, omega (arith, behind-back r start end x h g))

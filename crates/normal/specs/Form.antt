@@ -9,6 +9,7 @@ use Rattle.stretch.specs.Part.{part}
 use Rattle.stretch.specs.Same.{same}
 use Rattle.refusal.specs.Limits.{referenceLimit, replacementLimit}
 use Rattle.normal.specs.declared.Kind.{Kind}
+use Rattle.normal.specs.declared.Outline.{Outline}
 use Rattle.normal.specs.declared.Kind.the-variants.{Unchanged, Substitution, Indel}
 
 -- an allele on a reference, as the tests 1 to 3 leave it
@@ -30,20 +31,26 @@ shorter r t = min (length r) (length t)
 unfoldable pub within : ℕ → ℕ → ℕ → ℕ
 within k q p = min p (k - q)
 
--- a, from the longest common prefix, and b, from the longest common suffix
-unfoldable pub ahead : List ℕ → List ℕ → ℕ
-ahead r t = within (shorter r t) (lcs r t) (lcp r t)
-
-unfoldable pub behind : List ℕ → List ℕ → ℕ
-behind r t = within (shorter r t) (lcp r t) (lcs r t)
-
 -- a substitution where p + q is below k, whatever the lengths
 unfoldable pub kindIn : ℕ → ℕ → ℕ → Kind
 kindIn k p q = cond (ltb (p + q) k) Substitution Indel
 
--- the kind, by p, q and k
+-- the kind, a and b, by k, p and q alone
+abbrev pub outlineIn : ℕ → ℕ → ℕ → Outline
+outlineIn k p q = record { kind = kindIn k p q; a = within k q p; b = within k p q }
+
+-- those of r and t, whose longest common prefix and suffix have the lengths p and q
+abbrev pub outline : List ℕ → List ℕ → Outline
+outline r t = outlineIn (shorter r t) (lcp r t) (lcs r t)
+
 unfoldable pub kindOf : List ℕ → List ℕ → Kind
-kindOf r t = kindIn (shorter r t) (lcp r t) (lcs r t)
+kindOf r t = outline r t .kind
+
+unfoldable pub ahead : List ℕ → List ℕ → ℕ
+ahead r t = outline r t .a
+
+unfoldable pub behind : List ℕ → List ℕ → ℕ
+behind r t = outline r t .b
 
 -- an allele in its normal form
 pub record Normal : Type 0 where

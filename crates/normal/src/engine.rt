@@ -1,14 +1,18 @@
 // The normal form of an allele that has passed its tests. It looks at what is trimmed and rolled, and
 // at nothing else of the reference.
+use super::Interval;
 use super::Kind;
+use super::Outline;
 use super::Stretches;
+use super::lengths::beyond;
+use super::lengths::outline_of;
 use super::roll::roll_left;
 use super::roll::roll_right;
 use stretch::equal;
 use stretch::smaller;
 ghost use mathlib.Core.Path.{_≡_};
 ghost use Prim.Native.Nat.{_-_, _≤_, max};
-ghost use Rattle.normal.specs.Form.{Allele, within, kindIn, altered};
+ghost use Rattle.normal.specs.Form.{Allele, altered};
 ghost use Rattle.normal.specs.Stretches.{spread, asGiven, changedStretches, stretchesOf};
 
 fn larger(a: usize, b: usize) -> usize
@@ -20,49 +24,19 @@ fn larger(a: usize, b: usize) -> usize
     a
 }
 
-// a - b, or 0 where b is the larger.
-fn beyond(a: usize, b: usize) -> usize
-    ensures { λ r. ⌜ r ≡ a - b ⌝ }
+// The stretches of a normal form of that outline, on a reference of n residues.
+fn lay(outline: Outline, n: usize, given: usize, start: usize, end: usize) -> Stretches
+    requires { ⌜ (outline .b ≤ n) × (end ≤ n) × (outline .b - (n - end) ≤ given) ⌝ }
+    ensures { λ r. ⌜ r ≡ spread outline n given start end ⌝ }
 {
-    if a < b {
-        return 0;
-    }
-    a - b
-}
-
-fn within_room(k: usize, q: usize, p: usize) -> usize
-    ensures { λ r. ⌜ r ≡ within k q p ⌝ }
-{
-    smaller(p, beyond(k, q))
-}
-
-fn kind_of(k: usize, p: usize, q: usize) -> Kind
-    requires { ⌜ p ≤ k ⌝ }
-    ensures { λ r. ⌜ r ≡ kindIn k p q ⌝ }
-{
-    if q < k - p {
-        return Kind::Substitution;
-    }
-    Kind::Indel
-}
-
-// The stretches of a normal form that begins at `a` and ends `b` before the end of the reference.
-fn lay(
-    kind: Kind,
-    n: usize,
-    given: usize,
-    start: usize,
-    end: usize,
-    a: usize,
-    b: usize,
-) -> Stretches
-    requires { ⌜ (b ≤ n) × (end ≤ n) × (b - (n - end) ≤ given) ⌝ }
-    ensures { λ r. ⌜ r ≡ spread kind n given start end a b ⌝ }
-{
+    let kind = outline.kind;
+    let a = outline.a;
+    let b = outline.b;
     Stretches {
         kind,
         start: a,
         end: n - b,
+        given: Interval { start, end },
         left: smaller(a, start),
         from: beyond(a, start),
         to: given - beyond(b, n - end),
@@ -77,6 +51,7 @@ fn as_given(start: usize, end: usize, given: usize) -> Stretches
         kind: Kind::Unchanged,
         start,
         end,
+        given: Interval { start, end },
         left: start,
         from: 0,
         to: given,
@@ -91,17 +66,15 @@ fn justify(reference: &[u8], start: usize, end: usize, replacement: &[u8]) -> St
 {
     let n = reference.len();
     let given = replacement.len();
+    let after = n - end;
     let p = start + roll_right(&reference[start..], replacement, &reference[end..]);
-    let q = n - end + roll_left(&reference[0..end], &reference[0..start], replacement);
-    let k = smaller(n, start + given + (n - end));
+    let q = after + roll_left(&reference[0..end], &reference[0..start], replacement);
     lay(
-        kind_of(k, p, q),
+        outline_of(n, start + given + after, p, q),
         n,
         given,
         start,
         end,
-        within_room(k, q, p),
-        within_room(k, p, q),
     )
 }
 

@@ -1,20 +1,10 @@
 // Three stretches that lie apart and are one text.
-use super::Stretches;
 use letters::first_foreign;
 ghost use mathlib.Core.Path.{_≡_};
 ghost use mathlib.Core.List.{_++_};
-ghost use Prim.Native.Nat.{_+_, _-_, _^_, _<_, _≤_};
+ghost use Prim.Native.Nat.{_+_, _^_, _<_};
 ghost use lib.ListN.{length};
 ghost use Rattle.letters.specs.Letters.{foreign};
-
-// How long the replacement is that the stretches hold.
-pub fn joined_length(start: usize, end: usize, w: Stretches) -> usize
-    requires { ⌜ (w .left ≤ start) × ((w .from ≤ w .to) × (end ≤ w .right)) ⌝ }
-    requires { ⌜ start - w .left + (w .to - w .from) + (w .right - end) < 2 ^ 64 ⌝ }
-    ensures { λ r. ⌜ r ≡ start - w .left + (w .to - w .from) + (w .right - end) ⌝ }
-{
-    start - w.left + (w.to - w.from) + (w.right - end)
-}
 
 // The offset of the first byte of the text that is no residue, or its length where there is none.
 pub fn first_foreign_of(a: &[u8], b: &[u8], c: &[u8]) -> usize

@@ -1,14 +1,17 @@
--- The rolls give p and q, and the numbers follow.
+-- The rolls give p and q, and the outline follows.
 use native.Mathlib.Omega.{arith}
 use mathlib.Core.Path.{_∙_}
 use borrow.Author.Needs.{needs}
 use Rattle.stretch.proofs.Common.{lcp-le-left}
 use Rattle.stretch.proofs.Suffix.{lcs-le-left}
 use Rattle.normal.specs.Form.{altered}
-use Rattle.normal.proofs.Laws.{lcp-le-shorter}
-use Rattle.normal.proofs.Spot.{spot-p, spot-q, spot-k, justified, rolls-fit}
+use Rattle.normal.specs.Stretches.{changedStretches}
+use Rattle.normal.proofs.Spot.{spot-p, spot-q, spot-outline, outline-fits}
 use Rattle.normal.proofs.engine.justify.Statement.{statement}
 use Rattle.normal.proofs.engine.justify.Tie as tie
+
+sub-after : tie.Need-sub-after
+sub-after c = search needs
 
 sub-roll-right : tie.Need-sub-roll-right
 sub-roll-right c = search needs
@@ -32,11 +35,18 @@ roll-right-requires : tie.Need-roll-right-requires
 roll-right-requires c κs = search needs
 
 add-p : tie.Need-add-p
-add-p c = let s = c .before .before .before .before .before in let r = s .args .reference .now in let x = s .args .replacement .now in
-    omega (arith, spot-p r (s .args .start) (s .args .end) x (s .pre .ordered) (s .pre .inside) _ (c .roll-right .ensures), lcp-le-left r (altered r (s .args .start) (s .args .end) x), s .pre .reference)
-
-sub-q : tie.Need-sub-q
-sub-q c = search needs
+add-p c =
+    let s = c .before .before .before .before .before in
+    let r = s .args .reference .now in
+    let start = s .args .start in
+    let end = s .args .end in
+    let x = s .args .replacement .now in
+    omega (
+      arith,
+      spot-p r start end x (s .pre .ordered) (s .pre .inside) _ (c .roll-right .ensures),
+      lcp-le-left r (altered r start end x),
+      s .pre .reference,
+    )
 
 sub-roll-left : tie.Need-sub-roll-left
 sub-roll-left c = search needs
@@ -60,57 +70,62 @@ roll-left-requires : tie.Need-roll-left-requires
 roll-left-requires c κs = search needs
 
 add-q : tie.Need-add-q
-add-q c = let s = c .before .before .before .before .before .before .before .before in let r = s .args .reference .now in let x = s .args .replacement .now in
-    omega (arith, spot-q r (s .args .start) (s .args .end) x (s .pre .ordered) (s .pre .inside) _ (c .roll-left .ensures), lcs-le-left r (altered r (s .args .start) (s .args .end) x), s .pre .reference)
-
-add-smaller : tie.Need-add-smaller
-add-smaller c = search needs
-
-sub-smaller : tie.Need-sub-smaller
-sub-smaller c = search needs
-
-add-smaller-2 : tie.Need-add-smaller-2
-add-smaller-2 c = search needs
-
-smaller-requires : tie.Need-smaller-requires
-smaller-requires c κs = search needs
-
-kind-of-requires : tie.Need-kind-of-requires
-kind-of-requires c κs = let d = c .before .before .before .before in let s = d .before .before .before .before .before in let r = s .args .reference .now in let x = s .args .replacement .now in
+add-q c =
+    let s = c .before .before .before .before .before .before .before .before in
+    let r = s .args .reference .now in
+    let start = s .args .start in
+    let end = s .args .end in
+    let x = s .args .replacement .now in
     omega (
       arith,
-      spot-p r (s .args .start) (s .args .end) x (s .pre .ordered) (s .pre .inside) _ (d .roll-right .ensures),
-      c .smaller .ensures ∙ spot-k r (s .args .start) (s .args .end) x (s .pre .ordered) (s .pre .inside),
-      lcp-le-shorter r (altered r (s .args .start) (s .args .end) x),
+      spot-q r start end x (s .pre .ordered) (s .pre .inside) _ (c .roll-left .ensures),
+      lcs-le-left r (altered r start end x),
+      s .pre .reference,
     )
 
-within-room-requires : tie.Need-within-room-requires
-within-room-requires c κs = search needs
+add-outline-of : tie.Need-add-outline-of
+add-outline-of c = search needs
 
-within-room-requires-2 : tie.Need-within-room-requires-2
-within-room-requires-2 c κs = search needs
+add-outline-of-2 : tie.Need-add-outline-of-2
+add-outline-of-2 c = search needs
+
+outline-of-requires : tie.Need-outline-of-requires
+outline-of-requires c κs = search needs
 
 lay-requires : tie.Need-lay-requires
-lay-requires c κs = let k = c .before .before .before in let l = k .before in let d = l .before .before .before in let s = d .before .before .before .before .before in
-    rolls-fit (s .args .reference .now) (s .args .start) (s .args .end) (s .args .replacement .now) (s .pre .ordered) (s .pre .inside) _ _ _
-    (k .smaller .ensures ∙ spot-k _ _ _ _ (s .pre .ordered) (s .pre .inside))
-    (spot-p _ _ _ _ (s .pre .ordered) (s .pre .inside) _ (d .roll-right .ensures))
-    (spot-q _ _ _ _ (s .pre .ordered) (s .pre .inside) _ (l .roll-left .ensures))
-    _ (c .within-room2 .ensures)
+lay-requires c κs =
+    let l = c .before in
+    let d = l .before .before .before in
+    let s = d .before .before .before .before .before in
+    let o = s .pre .ordered in
+    let i = s .pre .inside in
+    let r = s .args .reference .now in
+    let x = s .args .replacement .now in
+    outline-fits r (s .args .start) (s .args .end) x o i _
+    (c .outline-of .ensures
+    ∙ spot-outline r (s .args .start) (s .args .end) x o i _ _
+    (spot-p _ _ _ _ o i _ (d .roll-right .ensures)) (spot-q _ _ _ _ o i _ (l .roll-left .ensures)))
 
 returns : tie.Need-returns
-returns c = let k = c .before .before .before .before in let l = k .before in let d = l .before .before .before in let s = d .before .before .before .before .before in
-    c .lay .ensures
-    ∙ justified (s .args .reference .now) (s .args .start) (s .args .end) (s .args .replacement .now) (s .pre .ordered) (s .pre .inside) _ _ _
-    (k .smaller .ensures ∙ spot-k _ _ _ _ (s .pre .ordered) (s .pre .inside))
-    (spot-p _ _ _ _ (s .pre .ordered) (s .pre .inside) _ (d .roll-right .ensures))
-    (spot-q _ _ _ _ (s .pre .ordered) (s .pre .inside) _ (l .roll-left .ensures))
-    _ _ _ (c .before .before .before .kind-of .ensures) (c .before .before .within-room .ensures) (c .before .within-room2 .ensures)
+unfolding changedStretches
+returns c =
+    let l = c .before .before in
+    let d = l .before .before .before in
+    let s = d .before .before .before .before .before in
+    let o = s .pre .ordered in
+    let i = s .pre .inside in
+    rw (
+      c .lay .ensures,
+      c .before .outline-of .ensures
+          ∙ spot-outline (s .args .reference .now) (s .args .start) (s .args .end) (s .args .replacement .now) o i _ _
+          (spot-p _ _ _ _ o i _ (d .roll-right .ensures)) (spot-q _ _ _ _ o i _ (l .roll-left .ensures)),
+    )
 
 pub justify-spec : {M : Type 1} → statement M
 justify-spec =
     tie.close
     (tie.spec
+    sub-after
     sub-roll-right
     part-roll-right-start
     part-roll-right-end
@@ -119,7 +134,6 @@ justify-spec =
     part-roll-right-end-2
     roll-right-requires
     add-p
-    sub-q
     sub-roll-left
     part-roll-left-start
     part-roll-left-end
@@ -128,12 +142,8 @@ justify-spec =
     part-roll-left-end-2
     roll-left-requires
     add-q
-    add-smaller
-    sub-smaller
-    add-smaller-2
-    smaller-requires
-    kind-of-requires
-    within-room-requires
-    within-room-requires-2
+    add-outline-of
+    add-outline-of-2
+    outline-of-requires
     lay-requires
     returns)

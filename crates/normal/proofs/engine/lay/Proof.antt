@@ -1,11 +1,10 @@
--- Each number is the definition's.
 use borrow.Author.Needs.{needs}
 use Rattle.normal.specs.Stretches.{spread}
 use Rattle.normal.proofs.engine.lay.Statement.{statement}
 use Rattle.normal.proofs.engine.lay.Tie as tie
 
-sub-t8 : tie.Need-sub-t8
-sub-t8 c = search needs
+sub-t9 : tie.Need-sub-t9
+sub-t9 c = search needs
 
 smaller-requires : tie.Need-smaller-requires
 smaller-requires c κs = search needs
@@ -19,8 +18,8 @@ sub-beyond c = search needs
 beyond-requires-2 : tie.Need-beyond-requires-2
 beyond-requires-2 c κs = search needs
 
-sub-t13 : tie.Need-sub-t13
-sub-t13 c = search needs
+sub-t15 : tie.Need-sub-t15
+sub-t15 c = search needs
 
 sub-larger : tie.Need-sub-larger
 sub-larger c = search needs
@@ -36,12 +35,12 @@ pub lay-spec : {M : Type 1} → statement M
 lay-spec =
     tie.close
     (tie.spec
-    sub-t8
+    sub-t9
     smaller-requires
     beyond-requires
     sub-beyond
     beyond-requires-2
-    sub-t13
+    sub-t15
     sub-larger
     larger-requires
     returns)

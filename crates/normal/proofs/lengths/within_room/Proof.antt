@@ -1,8 +1,8 @@
 -- The smaller of a common length and the room that the other leaves.
 use borrow.Author.Needs.{needs}
 use Rattle.normal.specs.Form.{within}
-use Rattle.normal.proofs.engine.within_room.Statement.{statement}
-use Rattle.normal.proofs.engine.within_room.Tie as tie
+use Rattle.normal.proofs.lengths.within_room.Statement.{statement}
+use Rattle.normal.proofs.lengths.within_room.Tie as tie
 
 beyond-requires : tie.Need-beyond-requires
 beyond-requires c κs = search needs
