@@ -7,11 +7,15 @@ use normal::Stretches;
 use normal::first_foreign_of;
 use normal::joined_length;
 use normal::normalise;
+use normal::reference_after;
+use normal::reference_before;
+use normal::replacement_kept;
 use refusal::END_ABOVE_REFERENCE;
 use refusal::FOREIGN_BYTE;
 use refusal::FOREIGN_NORMAL_BYTE;
 use refusal::OUTPUT_TOO_SHORT;
 use refusal::OVER_LIMIT;
+use refusal::Outcome;
 use refusal::REFERENCE_LIMIT;
 use refusal::REPLACEMENT_LIMIT;
 use refusal::START_ABOVE_END;
@@ -19,106 +23,103 @@ use refusal::refuse;
 use refusal::sum_exceeds;
 use stretch::put_three;
 ghost use mathlib.Core.Path.{_≡_};
-ghost use Rattle.normal.specs.Stretches.{Fits};
-ghost use Rattle.forming.specs.Calls.{located, locatedClean, cleanly, Lays, Normalises};
+ghost use Prim.Native.Nat.{_+_, _^_, _<_, _≤_};
+ghost use lib.ListN.{length};
+ghost use Rattle.stretch.specs.Over.{over};
+ghost use Rattle.normal.specs.Stretches.{Fits, joined, joinedLength};
+ghost use Rattle.forming.specs.Calls.{givenAnswer, located, locatedClean, cleanly, formOf, Normalises};
+
+// The tests 1 to 4 of an allele as given.
+pub fn check_given(reference: &[u8], start: u64, end: u64, replacement: &[u8]) -> Outcome
+    ensures { λ r. ⌜ r ≡ givenAnswer (now (reference .entry)) start end (now (replacement .entry)) ⌝ }
+{
+    if REFERENCE_LIMIT < reference.len() as u64 {
+        return Outcome::Refused(refuse(OVER_LIMIT, 0));
+    }
+    if REPLACEMENT_LIMIT < replacement.len() as u64 {
+        return Outcome::Refused(refuse(OVER_LIMIT, 1));
+    }
+    if end < start {
+        return Outcome::Refused(refuse(START_ABOVE_END, 0));
+    }
+    if (reference.len() as u64) < end {
+        return Outcome::Refused(refuse(END_ABOVE_REFERENCE, reference.len() as u64));
+    }
+    let foreign = first_foreign(replacement);
+    if foreign < replacement.len() {
+        return Outcome::Refused(refuse(FOREIGN_BYTE, foreign as u64));
+    }
+    Outcome::Accepted
+}
 
 // Where the normal form lies, by the tests 1 to 4 alone: 5 is left to the caller.
 pub fn locate(reference: &[u8], start: u64, end: u64, replacement: &[u8]) -> Located
     ensures { λ r. ⌜ r ≡ located (now (reference .entry)) start end (now (replacement .entry)) ⌝ }
 {
-    if REFERENCE_LIMIT < reference.len() as u64 {
-        return Located::Refused(refuse(OVER_LIMIT, 0));
+    match check_given(reference, start, end, replacement) {
+        Outcome::Accepted => {
+            let w = normalise(reference, start as usize, end as usize, replacement);
+            Located::Accepted(w)
+        }
+        Outcome::Refused(why) => Located::Refused(why),
     }
-    if REPLACEMENT_LIMIT < replacement.len() as u64 {
-        return Located::Refused(refuse(OVER_LIMIT, 1));
-    }
-    if end < start {
-        return Located::Refused(refuse(START_ABOVE_END, 0));
-    }
-    if (reference.len() as u64) < end {
-        return Located::Refused(refuse(END_ABOVE_REFERENCE, reference.len() as u64));
-    }
-    let foreign = first_foreign(replacement);
-    if foreign < replacement.len() {
-        return Located::Refused(refuse(FOREIGN_BYTE, foreign as u64));
-    }
-    Located::Accepted(normalise(reference, start as usize, end as usize, replacement))
 }
 
 // 5 alone, of stretches that `locate` found.
-pub fn clean(
-    reference: &[u8],
-    start: usize,
-    end: usize,
-    replacement: &[u8],
-    w: Stretches,
-) -> Located
-    requires { ⌜ Fits (now reference) start end (now replacement) w ⌝ }
-    ensures { λ r. ⌜ r ≡ cleanly (now (reference .entry)) start end (now (replacement .entry)) w ⌝ }
+pub fn clean(reference: &[u8], replacement: &[u8], w: Stretches) -> Located
+    requires { ⌜ Fits (now reference) (now replacement) w ⌝ }
+    ensures { λ r. ⌜ r ≡ cleanly (now (reference .entry)) (now (replacement .entry)) w ⌝ }
 {
-    let left = w.left;
-    let from = w.from;
-    let to = w.to;
-    let right = w.right;
     let first = first_foreign_of(
-        &reference[left..start],
-        &replacement[from..to],
-        &reference[end..right],
+        reference_before(reference, w),
+        replacement_kept(replacement, w),
+        reference_after(reference, w),
     );
-    if first < joined_length(start, end, w) {
+    if first < joined_length(w) {
         return Located::Refused(refuse(FOREIGN_NORMAL_BYTE, first as u64));
     }
     Located::Accepted(w)
-}
-
-// 6, and the write.
-fn write(
-    reference: &[u8],
-    start: usize,
-    end: usize,
-    replacement: &[u8],
-    w: Stretches,
-    out: &mut [u8],
-    place: u64,
-) -> Normalised
-    requires { ⌜ Fits (now reference) start end (now replacement) w ⌝ }
-    ensures { λ r. ⌜ Lays (now (reference .entry)) start end (now (replacement .entry)) w (now (out .entry)) place r (now (out .exit)) ⌝ }
-{
-    let left = w.left;
-    let from = w.from;
-    let to = w.to;
-    let right = w.right;
-    let length = joined_length(start, end, w) as u64;
-    if sum_exceeds(place, length, out.len() as u64) {
-        return Normalised::Refused(refuse(OUTPUT_TOO_SHORT, length));
-    }
-    let at = place as usize;
-    put_three(
-        &mut out[at..],
-        0,
-        &reference[left..start],
-        &replacement[from..to],
-        &reference[end..right],
-    );
-    let kind = w.kind;
-    let form = Form {
-        kind,
-        start: w.start as u64,
-        end: w.end as u64,
-        length,
-    };
-    Normalised::Accepted(form)
 }
 
 // Where the normal form lies, by the tests 1 to 5.
 pub fn locate_clean(reference: &[u8], start: u64, end: u64, replacement: &[u8]) -> Located
     ensures { λ r. ⌜ r ≡ locatedClean (now (reference .entry)) start end (now (replacement .entry)) ⌝ }
 {
-    let found = locate(reference, start, end, replacement);
-    match found {
-        Located::Accepted(w) => clean(reference, start as usize, end as usize, replacement, w),
+    match locate(reference, start, end, replacement) {
+        Located::Accepted(w) => clean(reference, replacement, w),
         Located::Refused(why) => Located::Refused(why),
     }
+}
+
+// The numbers of the form that the stretches hold.
+pub fn form_of(w: Stretches) -> Form
+    requires { ⌜ (w .left ≤ w .given .start) × ((w .from ≤ w .to) × (w .given .end ≤ w .right)) ⌝ }
+    requires { ⌜ joinedLength w < 2 ^ 64 ⌝ }
+    ensures { λ r. ⌜ r ≡ formOf w ⌝ }
+{
+    let kind = w.kind;
+    let length = joined_length(w) as u64;
+    Form {
+        kind,
+        start: w.start as u64,
+        end: w.end as u64,
+        length,
+    }
+}
+
+// Lays the normal replacement over `out` from `at` on.
+fn write(reference: &[u8], replacement: &[u8], w: Stretches, out: &mut [u8], at: usize)
+    requires { ⌜ Fits (now reference) (now replacement) w ⌝ }
+    requires { ⌜ at + joinedLength w ≤ length (now out) ⌝ }
+    ensures { λ _. ⌜ now (out .exit) ≡ over (now (out .entry)) at (joined (now (reference .entry)) (now (replacement .entry)) w) ⌝ }
+{
+    put_three(
+        out,
+        at,
+        reference_before(reference, w),
+        replacement_kept(replacement, w),
+        reference_after(reference, w),
+    );
 }
 
 // Writes the normal replacement of an allele into `out` from `place` on, and answers its form.
@@ -132,17 +133,15 @@ pub fn normal_form(
 ) -> Normalised
     ensures { λ r. ⌜ Normalises (now (reference .entry)) start end (now (replacement .entry)) (now (out .entry)) place r (now (out .exit)) ⌝ }
 {
-    let found = locate_clean(reference, start, end, replacement);
-    match found {
-        Located::Accepted(w) => write(
-            reference,
-            start as usize,
-            end as usize,
-            replacement,
-            w,
-            out,
-            place,
-        ),
+    match locate_clean(reference, start, end, replacement) {
+        Located::Accepted(w) => {
+            let form = form_of(w);
+            if sum_exceeds(place, form.length, out.len() as u64) {
+                return Normalised::Refused(refuse(OUTPUT_TOO_SHORT, form.length));
+            }
+            write(reference, replacement, w, out, place as usize);
+            Normalised::Accepted(form)
+        }
         Located::Refused(why) => Normalised::Refused(why),
     }
 }

@@ -4,7 +4,9 @@
 // specs/Calls.antt has what they promise, and specs/Worked.antt the worked alleles as calls.
 mod call;
 
+pub use call::check_given;
 pub use call::clean;
+pub use call::form_of;
 pub use call::locate;
 pub use call::locate_clean;
 pub use call::normal_form;
