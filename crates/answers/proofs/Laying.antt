@@ -3,13 +3,12 @@ use Prim.Native.Nat.{ℕ, _+_, _^_, _<_, _≤_}
 use native.Mathlib.Omega.{arith}
 use mathlib.Core.Path.{_≡_}
 use mathlib.Core.List.{List, [], _∷_, _++_}
-use lib.ListN.{length, length-append, length-take}
+use lib.ListN.{length, length-append}
 use Rattle.stretch.specs.Over.{Wrote}
-use Rattle.stretch.specs.Part.{part}
 use Rattle.normal.specs.declared.Kind.{Kind}
 use Rattle.normal.specs.declared.Kind.the-variants.{Unchanged, Substitution, Indel}
 use Rattle.normal.specs.declared.Stretches.{Stretches}
-use Rattle.normal.specs.Stretches.{Fits}
+use Rattle.normal.specs.Stretches.{Fits, joinedLength}
 use Rattle.decimals.specs.Decimal.{decimal}
 use Rattle.decimals.proofs.Digits.{decimal-within}
 use Rattle.answers.specs.Answers.{word, Room}
@@ -25,20 +24,7 @@ word-short Indel = omega arith
 pub wrote-as : (l text same left : List ℕ) (n : ℕ) → text ≡ same → Wrote l 0 same left n → Wrote l 0 text left n
 wrote-as l text same left n e w = rw e w
 
-pub part-short : (l : List ℕ) (from to : ℕ) → from ≤ to → length (part l from to) + from ≤ to
-part-short l from to h = simp length-take (omega arith)
-
--- behind a front of at most 56 bytes there is room for the stretches and a line feed
-pub room-form : (r : List ℕ) (start end : ℕ) (x : List ℕ) (w : Stretches) (out left : List ℕ) {at : ℕ}
-    → Fits r start end x w → Room r x out → at ≤ 56 → length left ≡ length out
-    → at + (length (part r (w .left) start) + (length (part x (w .from) (w .to)) + length (part r end (w .right)))) < length left
-room-form r start end x w out left f h l e =
-    omega (
-      arith,
-      part-short r (w .left) start (f .before),
-      part-short x (w .from) (w .to) (f .ordered),
-      part-short r end (w .right) (f .after),
-      f .allele .ordered,
-      f .given,
-      f .inside,
-    )
+-- after a front of at most 56 bytes there is room for the stretches and a line feed
+pub room-form : (r x : List ℕ) (w : Stretches) (out left : List ℕ) {at n : ℕ} → Fits r x w → Room r x out → at ≤ 56
+    → length left ≡ length out → n ≡ joinedLength w → at + n < length left
+room-form r x w out left f h l e s = omega (arith, f .before, f .ordered, f .after, f .allele .ordered, f .kept, f .inside)

@@ -27,7 +27,7 @@ form-line k start end (c ∷ t) n e = rw (e, ne-eqb (length (c ∷ t)) 0 (λ z. 
 
 module _ (r : List ℕ) (start end : ℕ) (x : List ℕ) where
   pub accepted-line : (w : Stretches) → Accepted w ≡ locatedClean r start end x
-      → alleleReply r start end x ++ (lineFeed ∷ []) ≡ formReply (formIn r start end x w) ++ (lineFeed ∷ [])
+      → alleleReply r start end x ++ (lineFeed ∷ []) ≡ formReply (formIn r x w) ++ (lineFeed ∷ [])
   accepted-line w e = rw (clean-accepted r start end x w e .0) (ap (λ (f : Normal). formReply f ++ (lineFeed ∷ [])) (sym (clean-form r start end x w e)))
 
   pub refused-line : (why : Refusal) → Refused why ≡ locatedClean r start end x

@@ -6,6 +6,9 @@ use forming::Located;
 use forming::locate_clean;
 use normal::Stretches;
 use normal::joined_length;
+use normal::reference_after;
+use normal::reference_before;
+use normal::replacement_kept;
 use saying::Line;
 use saying::read_line;
 use stretch::put;
@@ -31,29 +34,18 @@ fn form_head(out: &mut [u8], w: Stretches, letters: usize) -> usize
     write_head(out, w.start as u64, w.end as u64, kind, b" ")
 }
 
-fn answer_form(
-    reference: &[u8],
-    start: usize,
-    end: usize,
-    replacement: &[u8],
-    w: Stretches,
-    out: &mut [u8],
-) -> usize
-    requires { ⌜ Fits (now reference) start end (now replacement) w ⌝ }
+fn answer_form(reference: &[u8], replacement: &[u8], w: Stretches, out: &mut [u8]) -> usize
+    requires { ⌜ Fits (now reference) (now replacement) w ⌝ }
     requires { ⌜ Room (now reference) (now replacement) (now out) ⌝ }
-    ensures { λ r. ⌜ Wrote (now (out .entry)) 0 (formReply (formIn (now (reference .entry)) start end (now (replacement .entry)) w) ++ (lineFeed ∷ [])) (now (out .exit)) r ⌝ }
+    ensures { λ r. ⌜ Wrote (now (out .entry)) 0 (formReply (formIn (now (reference .entry)) (now (replacement .entry)) w) ++ (lineFeed ∷ [])) (now (out .exit)) r ⌝ }
 {
-    let left = w.left;
-    let from = w.from;
-    let to = w.to;
-    let right = w.right;
-    let at = form_head(out, w, joined_length(start, end, w));
+    let at = form_head(out, w, joined_length(w));
     put_line(
         out,
         at,
-        &reference[left..start],
-        &replacement[from..to],
-        &reference[end..right],
+        reference_before(reference, w),
+        replacement_kept(replacement, w),
+        reference_after(reference, w),
     )
 }
 
@@ -67,16 +59,8 @@ fn answer_allele(
     requires { ⌜ Room (now reference) (now replacement) (now out) ⌝ }
     ensures { λ r. ⌜ Wrote (now (out .entry)) 0 (alleleReply (now (reference .entry)) start end (now (replacement .entry)) ++ (lineFeed ∷ [])) (now (out .exit)) r ⌝ }
 {
-    let found = locate_clean(reference, start, end, replacement);
-    match found {
-        Located::Accepted(w) => answer_form(
-            reference,
-            start as usize,
-            end as usize,
-            replacement,
-            w,
-            out,
-        ),
+    match locate_clean(reference, start, end, replacement) {
+        Located::Accepted(w) => answer_form(reference, replacement, w, out),
         Located::Refused(why) => write_refused(out, why.number),
     }
 }

@@ -98,12 +98,12 @@ pub fn form_of(w: Stretches) -> Form
     ensures { λ r. ⌜ r ≡ formOf w ⌝ }
 {
     let kind = w.kind;
-    let length = joined_length(w) as u64;
+    let letters = joined_length(w) as u64;
     Form {
         kind,
         start: w.start as u64,
         end: w.end as u64,
-        length,
+        length: letters,
     }
 }
 

@@ -1,5 +1,4 @@
 -- By what the normaliser answers.
-use native.Mathlib.Omega.{arith}
 use mathlib.Core.Path.{_∙_, sym}
 use borrow.Author.Needs.{needs}
 use Rattle.forming.proofs.Answers.{clean-fits}
@@ -11,41 +10,46 @@ use Rattle.answers.proofs.reply.answer_allele.Tie as tie
 locate-clean-requires : tie.Need-locate-clean-requires
 locate-clean-requires c κs = search needs
 
-enum-known-found : tie.Need-enum-known-found
-enum-known-found c = search needs
+enum-known-w : tie.Need-enum-known-w
+enum-known-w c = search needs
 
 answer-form-requires : tie.Need-answer-form-requires
-answer-form-requires c κs = (
-  clean-fits _ _ _ _ _ (sym (c .before .before .found .given .1) ∙ c .before .before .before .before .locate-clean .ensures),
-  c .before .before .before .before .before .before .before .before .pre,
-)
+answer-form-requires c κs =
+    let t = c .before .before in
+    (clean-fits _ _ _ _ _ (sym (t .w .given .1) ∙ t .before .before .locate-clean .ensures), t .before .before .before .before .before .before .pre)
 
-enum-known-found-2 : tie.Need-enum-known-found-2
-enum-known-found-2 c = search needs
+enum-known-why : tie.Need-enum-known-why
+enum-known-why c = search needs
 
 write-refused-requires : tie.Need-write-refused-requires
-write-refused-requires c κs = omega (arith, c .before .before .before .before .before .before .before .before .pre)
+write-refused-requires c κs = search needs
 
 same-length : tie.Need-same-length
 same-length c = search needs
 
 returns : tie.Need-returns
-returns c = wrote-as _ _ _ _ _ (accepted-line _ _ _ _ _ (sym (c .before .before .before .before .before .found .given .1) ∙ c .before .before .before .before .before .before .before .locate-clean .ensures)) (c .before .before .answer-form .ensures)
+returns c =
+    let t = c .before .before .before .before .before in
+    wrote-as _ _ _ _ _ (accepted-line _ _ _ _ _ (sym (t .w .given .1) ∙ t .before .before .locate-clean .ensures))
+    (c .before .before .answer-form .ensures)
 
 same-length-2 : tie.Need-same-length-2
 same-length-2 c = search needs
 
 returns-2 : tie.Need-returns-2
-returns-2 c = wrote-as _ _ _ _ _ (refused-line _ _ _ _ _ (sym (c .before .before .before .before .before .found2 .given .1) ∙ c .before .before .before .before .before .before .before .locate-clean .ensures)) (c .before .before .write-refused .ensures)
+returns-2 c =
+    let t = c .before .before .before .before .before in
+    wrote-as _ _ _ _ _ (refused-line _ _ _ _ _ (sym (t .why .given .1) ∙ t .before .before .locate-clean .ensures))
+    (c .before .before .write-refused .ensures)
 
 pub answer-allele-spec : {M : Type 1} → statement M
 answer-allele-spec =
     tie.close
     (tie.spec
     locate-clean-requires
-    enum-known-found
+    enum-known-w
     answer-form-requires
-    enum-known-found-2
+    enum-known-why
     write-refused-requires
     same-length
     returns
