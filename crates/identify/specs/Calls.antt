@@ -30,5 +30,6 @@ unfoldable pub alleleAnswer : List ℕ → ℕ → ℕ → List ℕ → List ℕ
 alleleAnswer r start end x digest = tell Unfound (verdict (alleleGrounds r start end x digest)) (Found (stretchesOf r start end x))
 
 -- 7 and 5 alone, of stretches that are found
-unfoldable pub restAnswer : List ℕ → ℕ → ℕ → List ℕ → List ℕ → Stretches → Located
-restAnswer r start end x digest w = tell Unfound (verdict (digestTextGrounds digest ++ (foreignNormal (joined r start end x w) ∷ []))) (Found w)
+unfoldable pub restAnswer : List ℕ → List ℕ → List ℕ → Stretches → Located
+restAnswer r x digest w =
+    tell Unfound (verdict (digestTextGrounds digest ++ (foreignNormal (joined r x w) ∷ []))) (Found w)

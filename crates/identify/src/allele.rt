@@ -8,6 +8,9 @@ use letters::check_digest_text;
 use locations::location_digest;
 use normal::Stretches;
 use normal::joined_length;
+use normal::reference_after;
+use normal::reference_before;
+use normal::replacement_kept;
 use refusal::OUTPUT_TOO_SHORT;
 use refusal::Outcome;
 use refusal::Written;
@@ -15,11 +18,11 @@ use refusal::refuse;
 use refusal::sum_exceeds;
 use text::write_allele;
 ghost use mathlib.Core.Path.{_≡_};
-ghost use mathlib.Core.List.{[]};
+ghost use Prim.Native.Nat.{_+_, _≤_};
 ghost use lib.ListN.{length};
-ghost use Rattle.refusal.specs.Writes.{Says};
-ghost use Rattle.normal.specs.Stretches.{Fits, formIn};
-ghost use Rattle.identify.specs.Identifier.{textOf, identifierOf};
+ghost use Rattle.stretch.specs.Over.{over};
+ghost use Rattle.normal.specs.Stretches.{Fits, joinedLength, formIn};
+ghost use Rattle.identify.specs.Identifier.{textOf};
 ghost use Rattle.identify.specs.Calls.{alleleAnswer, restAnswer, SaysAllele, IdentifiesAllele};
 
 const ALLELE_PREFIX: [u8; 9] = *b"ga4gh:VA.";
@@ -31,19 +34,12 @@ const IDENTIFIER_LENGTH: u64 = 41;
 const AROUND_SEQUENCE: usize = 110;
 
 // The tests 7, 5.
-fn check_rest(
-    reference: &[u8],
-    start: usize,
-    end: usize,
-    replacement: &[u8],
-    digest: &[u8],
-    w: Stretches,
-) -> Located
-    requires { ⌜ Fits (now reference) start end (now replacement) w ⌝ }
-    ensures { λ r. ⌜ r ≡ restAnswer (now (reference .entry)) start end (now (replacement .entry)) (now (digest .entry)) w ⌝ }
+fn check_rest(reference: &[u8], replacement: &[u8], digest: &[u8], w: Stretches) -> Located
+    requires { ⌜ Fits (now reference) (now replacement) w ⌝ }
+    ensures { λ r. ⌜ r ≡ restAnswer (now (reference .entry)) (now (replacement .entry)) (now (digest .entry)) w ⌝ }
 {
     match check_digest_text(digest) {
-        Outcome::Accepted => clean(reference, start, end, replacement, w),
+        Outcome::Accepted => clean(reference, replacement, w),
         Outcome::Refused(why) => Located::Refused(why),
     }
 }
@@ -59,73 +55,33 @@ fn check_allele(
     ensures { λ r. ⌜ r ≡ alleleAnswer (now (reference .entry)) start end (now (replacement .entry)) (now (digest .entry)) ⌝ }
 {
     match locate(reference, start, end, replacement) {
-        Located::Accepted(w) => check_rest(
-            reference,
-            start as usize,
-            end as usize,
-            replacement,
-            digest,
-            w,
-        ),
+        Located::Accepted(w) => check_rest(reference, replacement, digest, w),
         Located::Refused(why) => Located::Refused(why),
     }
 }
 
-// 6, and the text of the form that the stretches hold.
+// Lays the text of the form that the stretches hold over `out` from `at` on.
 fn write_text(
     reference: &[u8],
-    start: usize,
-    end: usize,
     replacement: &[u8],
     digest: &[u8],
     w: Stretches,
     out: &mut [u8],
-    place: u64,
-) -> Written
-    requires { ⌜ Fits (now reference) start end (now replacement) w ⌝ }
+    at: usize,
+)
+    requires { ⌜ Fits (now reference) (now replacement) w ⌝ }
     requires { ⌜ length (now digest) ≡ 32 ⌝ }
-    ensures { λ r. ⌜ Says [] (textOf (formIn (now (reference .entry)) start end (now (replacement .entry)) w) (now (digest .entry))) (now (out .entry)) place r (now (out .exit)) ⌝ }
+    requires { ⌜ at + (joinedLength w + 110) ≤ length (now out) ⌝ }
+    ensures { λ _. ⌜ now (out .exit) ≡ over (now (out .entry)) at (textOf (formIn (now (reference .entry)) (now (replacement .entry)) w) (now (digest .entry))) ⌝ }
 {
-    let left = w.left;
-    let from = w.from;
-    let to = w.to;
-    let right = w.right;
-    let length = (joined_length(start, end, w) + AROUND_SEQUENCE) as u64;
-    if sum_exceeds(place, length, out.len() as u64) {
-        return Written::Refused(refuse(OUTPUT_TOO_SHORT, length));
-    }
     let location = location_digest(w.start as u64, w.end as u64, digest);
-    let at = place as usize;
     write_allele(
         &mut out[at..],
         &location,
-        &reference[left..start],
-        &replacement[from..to],
-        &reference[end..right],
+        reference_before(reference, w),
+        replacement_kept(replacement, w),
+        reference_after(reference, w),
     );
-    Written::Bytes(length)
-}
-
-// 6, and the identifier of the form that the stretches hold.
-fn write_identifier(
-    reference: &[u8],
-    start: usize,
-    end: usize,
-    replacement: &[u8],
-    digest: &[u8],
-    w: Stretches,
-    out: &mut [u8],
-    place: u64,
-) -> Written
-    requires { ⌜ Fits (now reference) start end (now replacement) w ⌝ }
-    requires { ⌜ length (now digest) ≡ 32 ⌝ }
-    ensures { λ r. ⌜ Says [] (identifierOf (formIn (now (reference .entry)) start end (now (replacement .entry)) w) (now (digest .entry))) (now (out .entry)) place r (now (out .exit)) ⌝ }
-{
-    if sum_exceeds(place, IDENTIFIER_LENGTH, out.len() as u64) {
-        return Written::Refused(refuse(OUTPUT_TOO_SHORT, IDENTIFIER_LENGTH));
-    }
-    let hash = form_hash(reference, start, end, replacement, digest, w);
-    place_identifier(out, place, &ALLELE_PREFIX, &hash)
 }
 
 // Writes the text of the allele's normal form into `out` from `place` on.
@@ -141,16 +97,14 @@ pub fn allele_text(
     ensures { λ r. ⌜ SaysAllele (now (reference .entry)) start end (now (replacement .entry)) (now (digest .entry)) (now (out .entry)) place r (now (out .exit)) ⌝ }
 {
     match check_allele(reference, start, end, replacement, digest) {
-        Located::Accepted(w) => write_text(
-            reference,
-            start as usize,
-            end as usize,
-            replacement,
-            digest,
-            w,
-            out,
-            place,
-        ),
+        Located::Accepted(w) => {
+            let length = (joined_length(w) + AROUND_SEQUENCE) as u64;
+            if sum_exceeds(place, length, out.len() as u64) {
+                return Written::Refused(refuse(OUTPUT_TOO_SHORT, length));
+            }
+            write_text(reference, replacement, digest, w, out, place as usize);
+            Written::Bytes(length)
+        }
         Located::Refused(why) => Written::Refused(why),
     }
 }
@@ -168,16 +122,13 @@ pub fn allele_identifier(
     ensures { λ r. ⌜ IdentifiesAllele (now (reference .entry)) start end (now (replacement .entry)) (now (digest .entry)) (now (out .entry)) place r (now (out .exit)) ⌝ }
 {
     match check_allele(reference, start, end, replacement, digest) {
-        Located::Accepted(w) => write_identifier(
-            reference,
-            start as usize,
-            end as usize,
-            replacement,
-            digest,
-            w,
-            out,
-            place,
-        ),
+        Located::Accepted(w) => {
+            if sum_exceeds(place, IDENTIFIER_LENGTH, out.len() as u64) {
+                return Written::Refused(refuse(OUTPUT_TOO_SHORT, IDENTIFIER_LENGTH));
+            }
+            let hash = form_hash(reference, replacement, digest, w);
+            place_identifier(out, place, &ALLELE_PREFIX, &hash)
+        }
         Located::Refused(why) => Written::Refused(why),
     }
 }

@@ -1,6 +1,9 @@
 // The hash of an allele text, as its parts lie, without the text being built.
 use locations::location_digest;
 use normal::Stretches;
+use normal::reference_after;
+use normal::reference_before;
+use normal::replacement_kept;
 use text::BEFORE_LOCATION;
 use text::BEFORE_SEQUENCE;
 use text::BEHIND_SEQUENCE;
@@ -28,27 +31,16 @@ fn allele_hash(location: &[u8], a: &[u8], b: &[u8], c: &[u8]) -> [u8; 64]
 }
 
 // The hash of the text of the form that the stretches hold.
-pub fn form_hash(
-    reference: &[u8],
-    start: usize,
-    end: usize,
-    replacement: &[u8],
-    digest: &[u8],
-    w: Stretches,
-) -> [u8; 64]
-    requires { ⌜ Fits (now reference) start end (now replacement) w ⌝ }
+pub fn form_hash(reference: &[u8], replacement: &[u8], digest: &[u8], w: Stretches) -> [u8; 64]
+    requires { ⌜ Fits (now reference) (now replacement) w ⌝ }
     requires { ⌜ length (now digest) ≡ 32 ⌝ }
-    ensures { λ r. ⌜ r ≡ sha512 (textOf (formIn (now (reference .entry)) start end (now (replacement .entry)) w) (now (digest .entry))) ⌝ }
+    ensures { λ r. ⌜ r ≡ sha512 (textOf (formIn (now (reference .entry)) (now (replacement .entry)) w) (now (digest .entry))) ⌝ }
 {
     let location = location_digest(w.start as u64, w.end as u64, digest);
-    let left = w.left;
-    let from = w.from;
-    let to = w.to;
-    let right = w.right;
     allele_hash(
         &location,
-        &reference[left..start],
-        &replacement[from..to],
-        &reference[end..right],
+        reference_before(reference, w),
+        replacement_kept(replacement, w),
+        reference_after(reference, w),
     )
 }

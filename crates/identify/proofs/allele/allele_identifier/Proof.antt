@@ -1,8 +1,13 @@
--- The tests, and 6 behind them.
-use mathlib.Core.Path.{_∙_, sym}
+-- The tests, 6 after them, and the identifier of the text's hash.
+use native.Mathlib.Omega.{arith}
+use mathlib.Core.Path.{_≡_, _∙_, sym}
+use lib.ListN.{length}
+use borrow.Author.Tests.{ltb-false}
 use borrow.Author.Needs.{needs}
-use Rattle.refusal.proofs.Says.{says-then, says-nothing}
-use Rattle.identify.proofs.Answers.{allele-accepted, allele-digest, allele-fits, allele-form, allele-refused}
+use Rattle.refusal.proofs.Says.{says-nothing}
+use Rattle.encoding.specs.Digest.{sha512t24u}
+use Rattle.identify.specs.Identifier.{identifierOf}
+use Rattle.identify.proofs.Answers.{allele-digest, allele-fits, allele-refused, identifier-short, identifier-written}
 use Rattle.identify.proofs.allele.allele_identifier.Statement.{statement}
 use Rattle.identify.proofs.allele.allele_identifier.Tie as tie
 
@@ -12,9 +17,35 @@ check-allele-requires c κs = search needs
 enum-known-w : tie.Need-enum-known-w
 enum-known-w c = search needs
 
-write-identifier-requires : tie.Need-write-identifier-requires
-write-identifier-requires c κs = let e = sym (c .before .before .w .given .1) ∙ c .before .before .before .before .check-allele .ensures in
+sum-exceeds-requires : tie.Need-sum-exceeds-requires
+sum-exceeds-requires c κs = search needs
+
+refuse-requires : tie.Need-refuse-requires
+refuse-requires c κs = search needs
+
+returns : tie.Need-returns
+returns c =
+    let t = c .before .before .before .before in
+    let room = sym (c .before .before .sum-exceeds .ensures) ∙ c .before .if1 .taken in
+    identifier-short _ _ _ _ _ _ (sym (t .w .given .1) ∙ t .before .before .check-allele .ensures) _ _ _ (rw (c .refuse .ensures)) room
+
+form-hash-requires : tie.Need-form-hash-requires
+form-hash-requires c κs =
+    let t = c .before .before .before in
+    let e = sym (t .w .given .1) ∙ t .before .before .check-allele .ensures in
     (allele-fits _ _ _ _ _ _ e, allele-digest _ _ _ _ _ _ e)
+
+slice-aggregate-place-identifier : tie.Need-slice-aggregate-place-identifier
+slice-aggregate-place-identifier c = search needs
+
+slice-aggregate-place-identifier-2 : tie.Need-slice-aggregate-place-identifier-2
+slice-aggregate-place-identifier-2 c = search needs
+
+place-identifier-requires : tie.Need-place-identifier-requires
+place-identifier-requires c κs =
+    let h = c .before .before .before in
+    let long : length (h .form-hash .result) ≡ 64 = search needs in
+    (ltb-false _ _ (sym (h .before .before .sum-exceeds .ensures) ∙ h .before .if1 .left), omega arith)
 
 enum-known-why : tie.Need-enum-known-why
 enum-known-why c = search needs
@@ -22,16 +53,19 @@ enum-known-why c = search needs
 same-length : tie.Need-same-length
 same-length c = search needs
 
-returns : tie.Need-returns
-returns c =
-    let k = c .before .before .before .before .before .before .before in
-    let s = k .before .before .before .before .before in
-    let e = sym (c .before .before .before .before .before .w .given .1) ∙ k .check-allele .ensures in
-    let form = allele-form (s .args .reference .now) (s .args .start) (s .args .end) (s .args .replacement .now) (s .args .digest .now) _ e in
-    says-then _ _ _ _ _ _ (allele-accepted _ _ _ _ _ _ e) (rw form at (c .before .before .write-identifier .ensures))
-
 returns-2 : tie.Need-returns-2
-returns-2 c = says-nothing _ _ _ _ _ (allele-refused _ _ _ _ _ _ (sym (c .before .why .given .1) ∙ c .before .before .before .check-allele .ensures))
+unfolding identifierOf sha512t24u
+returns-2 c =
+    let h = c .before .before .before .before .before .before in
+    let t = h .before .before .before .before in
+    let room = sym (h .before .before .sum-exceeds .ensures) ∙ h .before .if1 .left in
+    identifier-written _ _ _ _ _ _ (sym (t .w .given .1) ∙ t .before .before .check-allele .ensures) _ _ _ _ room
+    (rw (← h .form-hash .ensures) (c .before .before .place-identifier .ensures))
+
+returns-3 : tie.Need-returns-3
+returns-3 c =
+    let t = c .before in
+    says-nothing _ _ _ _ _ (allele-refused _ _ _ _ _ _ (sym (t .why .given .1) ∙ t .before .before .check-allele .ensures))
 
 pub allele-identifier-spec : {M : Type 1} → statement M
 allele-identifier-spec =
@@ -39,8 +73,14 @@ allele-identifier-spec =
     (tie.spec
     check-allele-requires
     enum-known-w
-    write-identifier-requires
+    sum-exceeds-requires
+    refuse-requires
+    returns
+    form-hash-requires
+    slice-aggregate-place-identifier
+    slice-aggregate-place-identifier-2
+    place-identifier-requires
     enum-known-why
     same-length
-    returns
-    returns-2)
+    returns-2
+    returns-3)

@@ -1,4 +1,4 @@
--- 7, and 5 behind it.
+-- 7, and 5 after it.
 use mathlib.Core.Path.{_∙_, sym}
 use borrow.Author.Needs.{needs}
 use Rattle.identify.proofs.Answers.{rest-then, rest-refused}
@@ -19,10 +19,10 @@ enum-known-why c = search needs
 
 returns : tie.Need-returns
 returns c = let k = c .before .before .before in
-    c .clean .ensures ∙ rest-then _ _ _ _ _ _ (sym (c .before .enum-told .given .1) ∙ k .check-digest-text .ensures)
+    c .clean .ensures ∙ rest-then _ _ _ _ (sym (c .before .enum-told .given .1) ∙ k .check-digest-text .ensures)
 
 returns-2 : tie.Need-returns-2
-returns-2 c = rest-refused _ _ _ _ _ _ _ (sym (c .before .why .given .1) ∙ c .before .before .before .check-digest-text .ensures)
+returns-2 c = rest-refused _ _ _ _ _ (sym (c .before .why .given .1) ∙ c .before .before .before .check-digest-text .ensures)
 
 pub check-rest-spec : {M : Type 1} → statement M
 check-rest-spec =

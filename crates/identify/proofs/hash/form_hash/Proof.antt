@@ -1,6 +1,9 @@
 -- The digest of its location, and its three stretches.
+use native.Mathlib.Omega.{arith}
+use mathlib.Core.Path.{_≡_}
+use lib.ListN.{length}
 use borrow.Author.Needs.{needs}
-use Rattle.normal.specs.Stretches.{joined}
+use Rattle.normal.proofs.Joined.{pieces-joined, pieces-long}
 use Rattle.identify.specs.Identifier.{textOf}
 use Rattle.identify.proofs.hash.form_hash.Statement.{statement}
 use Rattle.identify.proofs.hash.form_hash.Tie as tie
@@ -11,39 +14,33 @@ location-digest-requires c κs = search needs
 slice-aggregate-allele-hash : tie.Need-slice-aggregate-allele-hash
 slice-aggregate-allele-hash c = search needs
 
-sub-allele-hash : tie.Need-sub-allele-hash
-sub-allele-hash c = search needs
+reference-before-requires : tie.Need-reference-before-requires
+reference-before-requires c κs = search needs
 
-part-allele-hash-start : tie.Need-part-allele-hash-start
-part-allele-hash-start c = search needs
+replacement-kept-requires : tie.Need-replacement-kept-requires
+replacement-kept-requires c κs = search needs
 
-part-allele-hash-end : tie.Need-part-allele-hash-end
-part-allele-hash-end c = search needs
-
-sub-allele-hash-2 : tie.Need-sub-allele-hash-2
-sub-allele-hash-2 c = search needs
-
-part-allele-hash-start-2 : tie.Need-part-allele-hash-start-2
-part-allele-hash-start-2 c = search needs
-
-part-allele-hash-end-2 : tie.Need-part-allele-hash-end-2
-part-allele-hash-end-2 c = search needs
-
-sub-allele-hash-3 : tie.Need-sub-allele-hash-3
-sub-allele-hash-3 c = search needs
-
-part-allele-hash-start-3 : tie.Need-part-allele-hash-start-3
-part-allele-hash-start-3 c = search needs
-
-part-allele-hash-end-3 : tie.Need-part-allele-hash-end-3
-part-allele-hash-end-3 c = search needs
+reference-after-requires : tie.Need-reference-after-requires
+reference-after-requires c κs = search needs
 
 allele-hash-requires : tie.Need-allele-hash-requires
-allele-hash-requires c κs = search needs
+allele-hash-requires c κs =
+    let f = c .before .before .before .before .before .before .before .before .pre .0 in
+    let first = c .before .before .reference-before .ensures in
+    let second = c .before .replacement-kept .ensures in
+    let long = pieces-long _ _ _ f first second (c .reference-after .ensures) in
+    let located : length (c .before .before .before .before .location-digest .result) ≡ 32 = search needs in
+    omega (arith, f .allele .reference, f .allele .replacement)
 
 returns : tie.Need-returns
-unfolding textOf joined
-returns c = rw (c .allele-hash .ensures, c .before .before .before .before .before .location-digest .ensures)
+unfolding textOf
+returns c =
+    let t = c .before in
+    let s = t .before .before .before .before .before .before .before .before in
+    let first = t .before .before .reference-before .ensures in
+    let second = t .before .replacement-kept .ensures in
+    let e = pieces-joined _ _ (s .args .w) first second (t .reference-after .ensures) in
+    rw (c .allele-hash .ensures, t .before .before .before .before .location-digest .ensures, e)
 
 pub form-hash-spec : {M : Type 1} → statement M
 form-hash-spec =
@@ -51,14 +48,8 @@ form-hash-spec =
     (tie.spec
     location-digest-requires
     slice-aggregate-allele-hash
-    sub-allele-hash
-    part-allele-hash-start
-    part-allele-hash-end
-    sub-allele-hash-2
-    part-allele-hash-start-2
-    part-allele-hash-end-2
-    sub-allele-hash-3
-    part-allele-hash-start-3
-    part-allele-hash-end-3
+    reference-before-requires
+    replacement-kept-requires
+    reference-after-requires
     allele-hash-requires
     returns)
