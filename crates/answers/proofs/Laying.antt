@@ -27,4 +27,5 @@ wrote-as l text same left n e w = rw e w
 -- after a front of at most 56 bytes there is room for the stretches and a line feed
 pub room-form : (r x : List ℕ) (w : Stretches) (out left : List ℕ) {at n : ℕ} → Fits r x w → Room r x out → at ≤ 56
     → length left ≡ length out → n ≡ joinedLength w → at + n < length left
-room-form r x w out left f h l e s = omega (arith, f .before, f .ordered, f .after, f .allele .ordered, f .kept, f .inside)
+room-form r x w out left f h l e s =
+    omega (arith, f .before, f .ordered, f .after, f .allele .ordered, f .kept, f .inside)

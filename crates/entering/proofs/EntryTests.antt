@@ -72,14 +72,14 @@ module _ (r : List ℕ) (start end : ℕ) (x : List ℕ) where
     unfolding changeGrounds
     clean = verdict-fewer (formGrounds r start end x) twelve (told .0)
 
-    pub change-fits : Fits r start end x w
+    pub change-fits : Fits r x w
     change-fits = rw (told .1) (stretches-fit r start end x (clean-allele r start end x clean))
 
-    form : formIn r start end x w ≡ normal r start end x
+    form : formIn r x w ≡ normal r start end x
     form = rw (told .1) (stretches-join r start end x (clean-allele r start end x clean))
 
-    pub enters-allele : (b : List ℕ) (answer : Entered) (left : List ℕ)
-        → EntersForm b (formIn r start end x w) answer left → EntersAllele b r start end x answer left
+    pub enters-allele : (b : List ℕ) (answer : Entered) (left : List ℕ) → EntersForm b (formIn r x w) answer left
+        → EntersAllele b r start end x answer left
     unfolding EntersForm EntersAllele
     enters-allele b answer left p =
         let room = roomGrounds b (normal r start end x) (found b (normal r start end x)) in

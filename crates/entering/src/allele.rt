@@ -1,6 +1,6 @@
 // Entry of an allele, in its normal form.
-use forming::Form;
 use forming::Located;
+use forming::form_of;
 use forming::locate_clean;
 use image::DIGEST_AT;
 use image::HEADER_SIZE;
@@ -9,7 +9,9 @@ use image::read_number;
 use image::well_formed;
 use normal::Kind;
 use normal::Stretches;
-use normal::joined_length;
+use normal::reference_after;
+use normal::reference_before;
+use normal::replacement_kept;
 use numbering::Entered;
 use numbering::enter_form;
 use refusal::IMAGE_NOT_WELL_FORMED;
@@ -70,37 +72,18 @@ fn check_change(reference: &[u8], start: u64, end: u64, replacement: &[u8]) -> L
 }
 
 // Enters the form that the stretches hold.
-fn enter_stretches(
-    image: &mut [u8],
-    reference: &[u8],
-    start: usize,
-    end: usize,
-    replacement: &[u8],
-    w: Stretches,
-) -> Entered
+fn enter_stretches(image: &mut [u8], reference: &[u8], replacement: &[u8], w: Stretches) -> Entered
     requires { ⌜ Header (now image) ⌝ }
     requires { ⌜ wellFormed (now image) ≡ true ⌝ }
-    requires { ⌜ Fits (now reference) start end (now replacement) w ⌝ }
-    ensures { λ r. ⌜ EntersForm (now (image .entry)) (formIn (now (reference .entry)) start end (now (replacement .entry)) w) r (now (image .exit)) ⌝ }
+    requires { ⌜ Fits (now reference) (now replacement) w ⌝ }
+    ensures { λ r. ⌜ EntersForm (now (image .entry)) (formIn (now (reference .entry)) (now (replacement .entry)) w) r (now (image .exit)) ⌝ }
 {
-    let left = w.left;
-    let from = w.from;
-    let to = w.to;
-    let right = w.right;
-    let length = joined_length(start, end, w) as u64;
-    let kind = w.kind;
-    let form = Form {
-        kind,
-        start: w.start as u64,
-        end: w.end as u64,
-        length,
-    };
     enter_form(
         image,
-        form,
-        &reference[left..start],
-        &replacement[from..to],
-        &reference[end..right],
+        form_of(w),
+        reference_before(reference, w),
+        replacement_kept(replacement, w),
+        reference_after(reference, w),
     )
 }
 
@@ -117,14 +100,7 @@ fn enter_allele(
     ensures { λ r. ⌜ EntersAllele (now (image .entry)) (now (reference .entry)) start end (now (replacement .entry)) r (now (image .exit)) ⌝ }
 {
     match check_change(reference, start, end, replacement) {
-        Located::Accepted(w) => enter_stretches(
-            image,
-            reference,
-            start as usize,
-            end as usize,
-            replacement,
-            w,
-        ),
+        Located::Accepted(w) => enter_stretches(image, reference, replacement, w),
         Located::Refused(why) => Entered::Refused(why),
     }
 }

@@ -82,12 +82,16 @@ module _ (r : List ℕ) (start end : ℕ) (x digest : List ℕ) where
 
     -- 6 after them: the text
     text-long : joinedLength w + 110 ≡ length (textOf (normal r start end x) digest)
-    text-long = subst (λ (f : Normal). joinedLength w + 110 ≡ length (textOf f digest)) allele-form (allele-long r x w allele-fits digest)
+    text-long =
+        subst (λ (f : Normal). joinedLength w + 110 ≡ length (textOf f digest)) allele-form
+        (allele-long r x w allele-fits digest)
 
     module _ (out : List ℕ) (place : ℕ) where
       pub text-short : (answer : Written) → answer ≡ Unwritten (record { number = 6; value = joinedLength w + 110 })
-          → ltb (length out) (place + (joinedLength w + 110)) ≡ true → SaysAllele r start end x digest out place answer out
-      text-short answer a t = says-then _ _ out place answer out allele-accepted (says-short _ out place _ text-long answer a t)
+          → ltb (length out) (place + (joinedLength w + 110)) ≡ true
+          → SaysAllele r start end x digest out place answer out
+      text-short answer a t =
+          says-then _ _ out place answer out allele-accepted (says-short _ out place _ text-long answer a t)
 
       pub text-laid : (left : List ℕ) → ltb (length out) (place + (joinedLength w + 110)) ≡ false
           → left ≡ over out place (textOf (formIn r x w) digest)

@@ -1,66 +1,51 @@
 -- The stretches are lent as they lie.
+use mathlib.Core.Path.{_∙_, sym, ap}
 use borrow.Author.Needs.{needs}
-use Rattle.normal.specs.Stretches.{joined}
-use Rattle.normal.proofs.Joined.{stretches-long}
+use Rattle.normal.proofs.Joined.{pieces-joined, pieces-long}
+use Rattle.forming.specs.declared.Form.{Form}
 use Rattle.entering.proofs.allele.enter_stretches.Statement.{statement}
 use Rattle.entering.proofs.allele.enter_stretches.Tie as tie
 
-joined-length-requires : tie.Need-joined-length-requires
-joined-length-requires c κs = search needs
+form-of-requires : tie.Need-form-of-requires
+form-of-requires c κs = search needs
 
-sub-enter-form : tie.Need-sub-enter-form
-sub-enter-form c = search needs
+reference-before-requires : tie.Need-reference-before-requires
+reference-before-requires c κs = search needs
 
-part-enter-form-start : tie.Need-part-enter-form-start
-part-enter-form-start c = search needs
+replacement-kept-requires : tie.Need-replacement-kept-requires
+replacement-kept-requires c κs = search needs
 
-part-enter-form-end : tie.Need-part-enter-form-end
-part-enter-form-end c = search needs
-
-sub-enter-form-2 : tie.Need-sub-enter-form-2
-sub-enter-form-2 c = search needs
-
-part-enter-form-start-2 : tie.Need-part-enter-form-start-2
-part-enter-form-start-2 c = search needs
-
-part-enter-form-end-2 : tie.Need-part-enter-form-end-2
-part-enter-form-end-2 c = search needs
-
-sub-enter-form-3 : tie.Need-sub-enter-form-3
-sub-enter-form-3 c = search needs
-
-part-enter-form-start-3 : tie.Need-part-enter-form-start-3
-part-enter-form-start-3 c = search needs
-
-part-enter-form-end-3 : tie.Need-part-enter-form-end-3
-part-enter-form-end-3 c = search needs
+reference-after-requires : tie.Need-reference-after-requires
+reference-after-requires c κs = search needs
 
 enter-form-requires : tie.Need-enter-form-requires
 enter-form-requires c κs =
     let s = c .before .before .before .before .before .before .before .before in
-    (s .pre .0, (s .pre .1 .0, stretches-long _ _ _ _ (s .args .w) (s .pre .1 .1) _ (c .before .before .before .before .joined-length .ensures)))
+    let first = c .before .before .reference-before .ensures in
+    let second = c .before .replacement-kept .ensures in
+    let long = pieces-long _ _ _ (s .pre .1 .1) first second (c .reference-after .ensures) in
+    (s .pre .0, (s .pre .1 .0, ap (λ (f : Form). f .length) (c .before .before .before .form-of .ensures) ∙ sym long))
 
 same-length : tie.Need-same-length
 same-length c = search needs
 
 returns : tie.Need-returns
-unfolding joined
-returns c = c .before .before .enter-form .ensures
+returns c =
+    let t = c .before .before .before in
+    let s = t .before .before .before .before .before .before .before .before in
+    let first = t .before .before .reference-before .ensures in
+    let second = t .before .replacement-kept .ensures in
+    let e = pieces-joined _ _ (s .args .w) first second (t .reference-after .ensures) in
+    rw (t .before .before .before .form-of .ensures, e) at (c .before .before .enter-form .ensures)
 
 pub enter-stretches-spec : {M : Type 1} → statement M
 enter-stretches-spec =
     tie.close
     (tie.spec
-    joined-length-requires
-    sub-enter-form
-    part-enter-form-start
-    part-enter-form-end
-    sub-enter-form-2
-    part-enter-form-start-2
-    part-enter-form-end-2
-    sub-enter-form-3
-    part-enter-form-start-3
-    part-enter-form-end-3
+    form-of-requires
+    reference-before-requires
+    replacement-kept-requires
+    reference-after-requires
     enter-form-requires
     same-length
     returns)

@@ -7,7 +7,8 @@ use borrow.Author.Needs.{needs}
 use Rattle.refusal.proofs.Says.{says-nothing}
 use Rattle.encoding.specs.Digest.{sha512t24u}
 use Rattle.identify.specs.Identifier.{identifierOf}
-use Rattle.identify.proofs.Answers.{allele-digest, allele-fits, allele-refused, identifier-short, identifier-written}
+use Rattle.identify.proofs.Answers.{allele-digest, allele-fits, allele-refused}
+use Rattle.identify.proofs.Answers.{identifier-short, identifier-written}
 use Rattle.identify.proofs.allele.allele_identifier.Statement.{statement}
 use Rattle.identify.proofs.allele.allele_identifier.Tie as tie
 
@@ -26,8 +27,9 @@ refuse-requires c κs = search needs
 returns : tie.Need-returns
 returns c =
     let t = c .before .before .before .before in
+    let e = sym (t .w .given .1) ∙ t .before .before .check-allele .ensures in
     let room = sym (c .before .before .sum-exceeds .ensures) ∙ c .before .if1 .taken in
-    identifier-short _ _ _ _ _ _ (sym (t .w .given .1) ∙ t .before .before .check-allele .ensures) _ _ _ (rw (c .refuse .ensures)) room
+    identifier-short _ _ _ _ _ _ e _ _ _ (rw (c .refuse .ensures)) room
 
 form-hash-requires : tie.Need-form-hash-requires
 form-hash-requires c κs =
@@ -58,14 +60,16 @@ unfolding identifierOf sha512t24u
 returns-2 c =
     let h = c .before .before .before .before .before .before in
     let t = h .before .before .before .before in
+    let e = sym (t .w .given .1) ∙ t .before .before .check-allele .ensures in
     let room = sym (h .before .before .sum-exceeds .ensures) ∙ h .before .if1 .left in
-    identifier-written _ _ _ _ _ _ (sym (t .w .given .1) ∙ t .before .before .check-allele .ensures) _ _ _ _ room
+    identifier-written _ _ _ _ _ _ e _ _ _ _ room
     (rw (← h .form-hash .ensures) (c .before .before .place-identifier .ensures))
 
 returns-3 : tie.Need-returns-3
 returns-3 c =
     let t = c .before in
-    says-nothing _ _ _ _ _ (allele-refused _ _ _ _ _ _ (sym (t .why .given .1) ∙ t .before .before .check-allele .ensures))
+    let e = sym (t .why .given .1) ∙ t .before .before .check-allele .ensures in
+    says-nothing _ _ _ _ _ (allele-refused _ _ _ _ _ _ e)
 
 pub allele-identifier-spec : {M : Type 1} → statement M
 allele-identifier-spec =

@@ -1,5 +1,4 @@
 -- The tests, 6 after them, and the write.
-use native.Mathlib.Omega.{arith}
 use mathlib.Core.Path.{_∙_, sym}
 use borrow.Author.Tests.{ltb-false}
 use borrow.Author.Needs.{needs}
@@ -36,14 +35,17 @@ returns : tie.Need-returns
 returns c =
     let l = c .before .before .before .joined-length .ensures in
     let t = c .before .before .before .before .before in
+    let e = sym (t .w .given .1) ∙ t .before .before .check-allele .ensures in
     let room = rw l at (sym (c .before .before .sum-exceeds .ensures) ∙ c .before .if1 .taken) in
-    text-short _ _ _ _ _ _ (sym (t .w .given .1) ∙ t .before .before .check-allele .ensures) _ _ _ (rw (c .refuse .ensures, l)) room
+    text-short _ _ _ _ _ _ e _ _ _ (rw (c .refuse .ensures, l)) room
 
 write-text-requires : tie.Need-write-text-requires
 write-text-requires c κs =
-    let t = c .before .before .before .before .before in
+    let i = c .before in
+    let l = i .before .before .joined-length .ensures in
+    let t = i .before .before .before .before in
     let e = sym (t .w .given .1) ∙ t .before .before .check-allele .ensures in
-    let room = rw (c .before .before .before .joined-length .ensures) at (sym (c .before .before .sum-exceeds .ensures) ∙ c .before .if1 .left) in
+    let room = rw l at (sym (i .before .sum-exceeds .ensures) ∙ i .if1 .left) in
     (allele-fits _ _ _ _ _ _ e, (allele-digest _ _ _ _ _ _ e, ltb-false _ _ room))
 
 enum-known-why : tie.Need-enum-known-why
@@ -57,13 +59,15 @@ returns-2 c =
     let i = c .before .before .before .before in
     let l = i .before .before .joined-length .ensures in
     let t = i .before .before .before .before in
+    let e = sym (t .w .given .1) ∙ t .before .before .check-allele .ensures in
     let room = rw l at (sym (i .before .sum-exceeds .ensures) ∙ i .if1 .left) in
-    rw l (text-laid _ _ _ _ _ _ (sym (t .w .given .1) ∙ t .before .before .check-allele .ensures) _ _ _ room (c .before .before .write-text .ensures))
+    rw l (text-laid _ _ _ _ _ _ e _ _ _ room (c .before .before .write-text .ensures))
 
 returns-3 : tie.Need-returns-3
 returns-3 c =
     let t = c .before in
-    says-nothing _ _ _ _ _ (allele-refused _ _ _ _ _ _ (sym (t .why .given .1) ∙ t .before .before .check-allele .ensures))
+    let e = sym (t .why .given .1) ∙ t .before .before .check-allele .ensures in
+    says-nothing _ _ _ _ _ (allele-refused _ _ _ _ _ _ e)
 
 pub allele-text-spec : {M : Type 1} → statement M
 allele-text-spec =

@@ -13,22 +13,32 @@ enum-known-w : tie.Need-enum-known-w
 enum-known-w c = search needs
 
 check-rest-requires : tie.Need-check-rest-requires
-check-rest-requires c κs = let k = c .before .before .before in
+check-rest-requires c κs =
+    let t = c .before in
+    let k = t .before .before in
     let s = k .before .before .before .before in
-    located-fits (s .args .reference .now) (s .args .start) (s .args .end) (s .args .replacement .now) _ (sym (c .before .w .given .1) ∙ k .locate .ensures)
+    located-fits (s .args .reference .now) (s .args .start) (s .args .end) (s .args .replacement .now) _
+    (sym (t .w .given .1) ∙ k .locate .ensures)
 
 enum-known-why : tie.Need-enum-known-why
 enum-known-why c = search needs
 
 returns : tie.Need-returns
-returns c = let k = c .before .before .before .before in
+returns c =
+    let t = c .before .before in
+    let k = t .before .before in
     let s = k .before .before .before .before in
-    c .check-rest .ensures ∙ allele-then (s .args .reference .now) (s .args .start) (s .args .end) (s .args .replacement .now) (s .args .digest .now) _ (sym (c .before .before .w .given .1) ∙ k .locate .ensures)
+    c .check-rest .ensures
+    ∙ allele-then (s .args .reference .now) (s .args .start) (s .args .end) (s .args .replacement .now)
+    (s .args .digest .now) _ (sym (t .w .given .1) ∙ k .locate .ensures)
 
 returns-2 : tie.Need-returns-2
-returns-2 c = let k = c .before .before .before in
+returns-2 c =
+    let t = c .before in
+    let k = t .before .before in
     let s = k .before .before .before .before in
-    allele-unfound (s .args .reference .now) (s .args .start) (s .args .end) (s .args .replacement .now) (s .args .digest .now) _ (sym (c .before .why .given .1) ∙ k .locate .ensures)
+    allele-unfound (s .args .reference .now) (s .args .start) (s .args .end) (s .args .replacement .now)
+    (s .args .digest .now) _ (sym (t .why .given .1) ∙ k .locate .ensures)
 
 pub check-allele-spec : {M : Type 1} → statement M
 check-allele-spec =

@@ -22,7 +22,9 @@ returns c = let k = c .before .before .before in
     c .clean .ensures ∙ rest-then _ _ _ _ (sym (c .before .enum-told .given .1) ∙ k .check-digest-text .ensures)
 
 returns-2 : tie.Need-returns-2
-returns-2 c = rest-refused _ _ _ _ _ (sym (c .before .why .given .1) ∙ c .before .before .before .check-digest-text .ensures)
+returns-2 c =
+    let t = c .before in
+    rest-refused _ _ _ _ _ (sym (t .why .given .1) ∙ t .before .before .check-digest-text .ensures)
 
 pub check-rest-spec : {M : Type 1} → statement M
 check-rest-spec =

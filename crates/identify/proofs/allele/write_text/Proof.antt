@@ -57,7 +57,8 @@ returns c =
     let second = t .before .replacement-kept .ensures in
     let e = pieces-joined _ _ (s .args .w) first second (t .reference-after .ensures) in
     let long = allele-long _ _ (s .args .w) (s .pre .0) (s .args .digest .now) in
-    rw (c .before .before .write-allele .ensures .laid, t .before .before .before .before .before .location-digest .ensures, e)
+    let located = t .before .before .before .before .before .location-digest .ensures in
+    rw (c .before .before .write-allele .ensures .laid, located, e)
     (over-tail-front (s .args .out .now) (s .args .at) _ (omega (arith, s .pre .1 .1)))
 
 pub write-text-spec : {M : Type 1} → statement M
