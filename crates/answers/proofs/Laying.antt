@@ -3,8 +3,9 @@ use Prim.Native.Nat.{ℕ, _+_, _^_, _<_, _≤_}
 use native.Mathlib.Omega.{arith}
 use mathlib.Core.Path.{_≡_}
 use mathlib.Core.List.{List, [], _∷_, _++_}
-use lib.ListN.{length, length-append}
+use lib.ListN.{length, length-append, length-take}
 use Rattle.stretch.specs.Over.{Wrote}
+use Rattle.stretch.specs.Part.{part}
 use Rattle.normal.specs.declared.Kind.{Kind}
 use Rattle.normal.specs.declared.Kind.the-variants.{Unchanged, Substitution, Indel}
 use Rattle.normal.specs.declared.Stretches.{Stretches}
@@ -23,6 +24,9 @@ word-short Indel = omega arith
 
 pub wrote-as : (l text same left : List ℕ) (n : ℕ) → text ≡ same → Wrote l 0 same left n → Wrote l 0 text left n
 wrote-as l text same left n e w = rw e w
+
+pub part-short : (l : List ℕ) (from to : ℕ) → from ≤ to → length (part l from to) + from ≤ to
+part-short l from to h = simp length-take (omega arith)
 
 -- after a front of at most 56 bytes there is room for the stretches and a line feed
 pub room-form : (r x : List ℕ) (w : Stretches) (out left : List ℕ) {at n : ℕ} → Fits r x w → Room r x out → at ≤ 56

@@ -16,7 +16,8 @@ enum-known-w c = search needs
 answer-form-requires : tie.Need-answer-form-requires
 answer-form-requires c κs =
     let t = c .before .before in
-    (clean-fits _ _ _ _ _ (sym (t .w .given .1) ∙ t .before .before .locate-clean .ensures), t .before .before .before .before .before .before .pre)
+    let k = t .before .before in
+    (clean-fits _ _ _ _ _ (sym (t .w .given .1) ∙ k .locate-clean .ensures), k .before .before .before .before .pre)
 
 enum-known-why : tie.Need-enum-known-why
 enum-known-why c = search needs
