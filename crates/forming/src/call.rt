@@ -23,10 +23,10 @@ use refusal::refuse;
 use refusal::sum_exceeds;
 use stretch::put_three;
 ghost use mathlib.Core.Path.{_≡_};
-ghost use Prim.Native.Nat.{_+_, _^_, _<_, _≤_};
+ghost use Prim.Native.Nat.{_+_, _≤_};
 ghost use lib.ListN.{length};
 ghost use Rattle.stretch.specs.Over.{over};
-ghost use Rattle.normal.specs.Stretches.{Fits, joined, joinedLength};
+ghost use Rattle.normal.specs.Stretches.{Fits, Countable, joined, joinedLength};
 ghost use Rattle.forming.specs.Calls.{givenAnswer, located, locatedClean, cleanly, formOf, Normalises};
 
 // The tests 1 to 4 of an allele as given.
@@ -93,8 +93,7 @@ pub fn locate_clean(reference: &[u8], start: u64, end: u64, replacement: &[u8]) 
 
 // The numbers of the form that the stretches hold.
 pub fn form_of(w: Stretches) -> Form
-    requires { ⌜ (w .left ≤ w .given .start) × ((w .from ≤ w .to) × (w .given .end ≤ w .right)) ⌝ }
-    requires { ⌜ joinedLength w < 2 ^ 64 ⌝ }
+    requires { ⌜ Countable w ⌝ }
     ensures { λ r. ⌜ r ≡ formOf w ⌝ }
 {
     let kind = w.kind;

@@ -1,6 +1,6 @@
 -- The normal replacement as three stretches: of the reference before the start given, of the replacement given, of the
 -- reference from the end given on.
-use Prim.Native.Nat.{ℕ, _+_, _-_, _≤_, min, max}
+use Prim.Native.Nat.{ℕ, _+_, _-_, _^_, _<_, _≤_, min, max}
 use mathlib.Core.Bool.{cond}
 use mathlib.Core.List.{List, _++_}
 use lib.ListN.{length}
@@ -36,6 +36,13 @@ joined r x w = referenceBefore r w ++ (replacementKept x w ++ referenceAfter r w
 
 abbrev pub joinedLength : Stretches → ℕ
 joinedLength w = w .given .start - w .left + (w .to - w .from) + (w .right - w .given .end)
+
+-- stretches that can be counted: none ends before it begins, and a machine word holds their length
+pub record Countable (w : Stretches) : Type 0 where
+  pub before : w .left ≤ w .given .start
+  pub ordered : w .from ≤ w .to
+  pub after : w .given .end ≤ w .right
+  pub short : joinedLength w < 2 ^ 64
 
 -- the stretches of a form of that outline, on a reference of length n, of a replacement of so many letters given
 unfoldable pub spread : Outline → ℕ → ℕ → ℕ → ℕ → Stretches

@@ -1,9 +1,10 @@
 // The three stretches that make up a normal replacement, each as it lies in what was lent.
 use super::Stretches;
 ghost use mathlib.Core.Path.{_≡_};
-ghost use Prim.Native.Nat.{_^_, _<_, _≤_};
+ghost use Prim.Native.Nat.{_≤_};
 ghost use lib.ListN.{length};
-ghost use Rattle.normal.specs.Stretches.{referenceBefore, replacementKept, referenceAfter, joinedLength};
+ghost use Rattle.normal.specs.Stretches.{referenceBefore, replacementKept, referenceAfter};
+ghost use Rattle.normal.specs.Stretches.{Countable, joinedLength};
 
 // Of the reference, what the form takes in before the start given.
 pub fn reference_before(reference: &[u8], w: Stretches) -> &[u8]
@@ -37,8 +38,7 @@ pub fn reference_after(reference: &[u8], w: Stretches) -> &[u8]
 
 // How long the three are together.
 pub fn joined_length(w: Stretches) -> usize
-    requires { ⌜ (w .left ≤ w .given .start) × ((w .from ≤ w .to) × (w .given .end ≤ w .right)) ⌝ }
-    requires { ⌜ joinedLength w < 2 ^ 64 ⌝ }
+    requires { ⌜ Countable w ⌝ }
     ensures { λ r. ⌜ r ≡ joinedLength w ⌝ }
 {
     w.given.start - w.left + (w.to - w.from) + (w.right - w.given.end)
