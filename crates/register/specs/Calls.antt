@@ -1,4 +1,5 @@
--- What withdrawal, undo and seal promise: the grounds of each in document 01's order, the answer, and what is left of the image.
+-- What withdrawal, undo and seal promise: the grounds of each in document 01's order, the answer, and what is left of
+-- the image.
 use Prim.Native.Nat.{ℕ}
 use mathlib.Core.List.{List, [], _∷_}
 use Rattle.refusal.specs.Verdict.{Ground, verdict}
