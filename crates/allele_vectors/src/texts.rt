@@ -11,6 +11,7 @@ use refusal::REFERENCE_LIMIT;
 use refusal::Written;
 ghost use Prim.Native.Nat.{_+_, _≤_};
 ghost use lib.ListN.{length};
+ghost use Rattle.text.specs.Layout.{alleleWords};
 
 // Room for the text and for the identifier of every line.
 const ROOM: usize = 160;

@@ -1,2 +1,3 @@
 pub mod Cut
 pub mod Promises
+pub mod Tested

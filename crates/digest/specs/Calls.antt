@@ -6,13 +6,14 @@ use lib.ListN.{length}
 use Rattle.refusal.specs.Verdict.{Ground, verdict, tell, leave}
 use Rattle.refusal.specs.Grounds.{referenceOverLimit, outputTooShort}
 use Rattle.refusal.specs.Writes.{Writes}
+use Rattle.refusal.specs.declared.Outcome.{Outcome}
 use Rattle.refusal.specs.declared.Outcome.the-variants.{Accepted, Refused}
 use Rattle.refusal.specs.declared.Written.{Written}
 use Rattle.letters.specs.Letters.{foreignGiven}
 use Rattle.sha512.specs.declared.Running.{Running}
 use Rattle.sha512.specs.Parts.{fed, finished}
 use Rattle.encoding.specs.Digest.{digestText}
-use Rattle.digest.specs.Identifier.{sequencePrefix, sequenceIdentifier}
+use Rattle.digest.specs.Identifier.{sequencePrefix, sequenceIdentifier, sequenceIdentifierLength}
 use Rattle.digest.specs.declared.Fed.{Fed}
 
 -- what is asked of a whole reference: 1, 4
@@ -21,7 +22,8 @@ referenceGrounds reference = referenceOverLimit (length reference) ∷ foreignGi
 
 -- its identifier: these, then 6
 abbrev pub wholeGrounds : List ℕ → ℕ → ℕ → List Ground
-wholeGrounds reference room place = referenceGrounds reference ++ (outputTooShort room place 41 ∷ [])
+wholeGrounds reference room place =
+    referenceGrounds reference ++ (outputTooShort room place sequenceIdentifierLength ∷ [])
 
 -- a part for the running digest: 1, 4
 abbrev pub partGrounds : ℕ → List ℕ → List Ground
@@ -29,7 +31,7 @@ partGrounds total part = referenceOverLimit (total + length part) ∷ foreignGiv
 
 -- its finish: 1 for a lent total over the limit, then 6
 abbrev pub finishGrounds : ℕ → ℕ → ℕ → List Ground
-finishGrounds total room place = referenceOverLimit total ∷ outputTooShort room place 41 ∷ []
+finishGrounds total room place = referenceOverLimit total ∷ outputTooShort room place sequenceIdentifierLength ∷ []
 
 -- the identifier is written from the place on, or nothing
 abbrev pub Identifies : List ℕ → List ℕ → ℕ → Written → List ℕ → Type 0
@@ -38,6 +40,13 @@ Identifies reference out place = Writes (verdict (wholeGrounds reference (length
 -- and so is that of all that a state was fed
 abbrev pub Finishes : Running → List ℕ → ℕ → Written → List ℕ → Type 0
 Finishes state out place = Writes (verdict (finishGrounds (state .total) (length out) place)) (sequencePrefix ++ digestText (finished state)) out place
+
+-- what the tests of each answer
+unfoldable pub wholeAnswer : List ℕ → ℕ → ℕ → Outcome
+wholeAnswer reference room place = tell Refused (verdict (wholeGrounds reference room place)) Accepted
+
+unfoldable pub finishAnswer : ℕ → ℕ → ℕ → Outcome
+finishAnswer total room place = tell Refused (verdict (finishGrounds total room place)) Accepted
 
 -- a refused part leaves the state as it was
 abbrev pub unfed : Running → ℕ → ℕ → Fed

@@ -16,7 +16,7 @@ use refusal::sum_exceeds;
 use sha512::Running;
 ghost use mathlib.Core.Path.{_≡_};
 ghost use Rattle.sha512.specs.Parts.{begun};
-ghost use Rattle.digest.specs.Calls.{Finishes, feeding, unfed};
+ghost use Rattle.digest.specs.Calls.{finishAnswer, Finishes, feeding, unfed};
 
 // A running digest of nothing yet.
 pub fn begin() -> Running
@@ -52,16 +52,29 @@ pub fn feed(state: Running, part: &[u8]) -> Fed
     }
 }
 
+// The tests 1, 6 of a finish.
+fn check_finish(total: u64, place: u64, room: u64) -> Outcome
+    ensures { λ r. ⌜ r ≡ finishAnswer total room place ⌝ }
+{
+    if REFERENCE_LIMIT < total {
+        return Outcome::Refused(refuse(OVER_LIMIT, 0));
+    }
+    if sum_exceeds(place, IDENTIFIER_LENGTH, room) {
+        return Outcome::Refused(refuse(OUTPUT_TOO_SHORT, IDENTIFIER_LENGTH));
+    }
+    Outcome::Accepted
+}
+
 // Writes the identifier of all the parts into `out` from `place` on. The state stays the caller's.
 pub fn finish(state: Running, out: &mut [u8], place: u64) -> Written
     ensures { λ r. ⌜ Finishes state (now (out .entry)) place r (now (out .exit)) ⌝ }
 {
-    if REFERENCE_LIMIT < state.total {
-        return Written::Refused(refuse(OVER_LIMIT, 0));
+    let room = out.len() as u64;
+    match check_finish(state.total, place, room) {
+        Outcome::Accepted => {
+            let hash = sha512::finish(state);
+            place_identifier(out, place, &SEQUENCE_PREFIX, &hash)
+        }
+        Outcome::Refused(why) => Written::Refused(why),
     }
-    if sum_exceeds(place, IDENTIFIER_LENGTH, out.len() as u64) {
-        return Written::Refused(refuse(OUTPUT_TOO_SHORT, IDENTIFIER_LENGTH));
-    }
-    let digest = sha512::finish(state);
-    place_identifier(out, place, &SEQUENCE_PREFIX, &digest)
 }
