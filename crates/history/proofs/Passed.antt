@@ -1,4 +1,4 @@
--- What an accepted call tells of the image.
+-- What an accepted entry tells of the image.
 use Prim.Native.Nat.{ℕ, _<_, _≤_}
 use native.Mathlib.Omega.{arith}
 use mathlib.Core.Path.{_≡_}
@@ -15,29 +15,6 @@ use Rattle.image.specs.Fields.{journalCapacity, journalCount, referenceLength, 
 use Rattle.numbering.specs.Found.{found}
 use Rattle.numbering.specs.Calls.{roomGrounds}
 use Rattle.entering.specs.Calls.{imageGrounds, unchangedAllele, changeGrounds, entryGrounds}
-use Rattle.register.specs.Calls.{withdrawalGrounds, undoGrounds}
-use Rattle.history.specs.Demand.{Live}
-
--- a withdrawal: an active number, and room in the journal
-pub record Withdrawable (b : List ℕ) (i : ℕ) : Type 0 where
-  pub live : Live b i
-  pub on : statusOf b i ≡ active
-  pub room : journalCount b < journalCapacity b
-
-pub withdrawable : (b : List ℕ) (i : ℕ) → verdict (withdrawalGrounds b i) ≡ accepted → Withdrawable b i
-unfolding withdrawalGrounds
-withdrawable b i v =
-    let none = none-holds (withdrawalGrounds b i) v in
-    record {
-      live = record { from = omega (arith, eqb-false i 0 (none 1)); to = ltb-false _ _ (none 2) };
-      on = eqb-true _ _ (not-false _ (none 3));
-      room = leb-false _ _ (none 4);
-    }
-
--- an undo: an entry in the journal
-pub undoable : (b : List ℕ) → verdict (undoGrounds b) ≡ accepted → 1 ≤ journalCount b
-unfolding undoGrounds
-undoable b v = omega (arith, eqb-false (journalCount b) 0 (none-holds (undoGrounds b) v 1))
 
 -- an entry: an image of this reference, and a changed allele that passes the normal form's tests, with room for it
 pub record Enterable (b r : List ℕ) (start end : ℕ) (x : List ℕ) : Type 0 where

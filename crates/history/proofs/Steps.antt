@@ -40,7 +40,8 @@ use Rattle.history.proofs.View.{Moves}
 use Rattle.history.proofs.Proper.{Proper, has-stands, has-proper, proper-has}
 use Rattle.history.proofs.Found.{Match, Unmatched, Finding, active-as, withdrawn-as, nowhere, finding}
 use Rattle.history.proofs.Shows.{shows, live-back, stays-proper, restated-keeps, journalled-changes, closed-sealed, issues-cases, issues-changes, issues-has}
-use Rattle.history.proofs.Passed.{Withdrawable, withdrawable, undoable, Enterable, enterable}
+use Rattle.register.proofs.Accepted.{Withdrawable, withdrawable, undoable}
+use Rattle.history.proofs.Passed.{Enterable, enterable}
 
 zero-or-one : (s : ℕ) → s ≤ 1 → (s ≡ 0) ⊎ (s ≡ 1)
 zero-or-one zero h = inl refl
@@ -79,7 +80,7 @@ module _ (r b : List ℕ) (state : State r b) where
 
   withdrawn-step : (i : ℕ) → Withdrawable b i → Step r b (withdrawal i) (withdrawn b i)
   withdrawn-step i w =
-      let l = w .live in
+      let l : Live b i = record { from = w .from; to = w .to } in
       let s = withdrawn-seen b (image .header) inside i (l .from) (l .to) (w .room) in
       record {
         state = journalled-state (withdrawn b i) i inactive s (omega arith) l (w .room);
@@ -262,5 +263,5 @@ module _ (r b : List ℕ) (state : State r b) where
       (λ v. entry-step start end x (enterable b digest r start end x v) (finding b (normal r start end x)))
   step (withdraws i answer p) =
       by-verdict (outcomeEvent (withdrawal i)) (λ why. refl) p (λ v. withdrawn-step i (withdrawable b i v))
-  step (undoes answer p) = by-verdict undoEvent (λ why. refl) p (λ v. undone-step (undoable b v))
+  step (undoes answer p) = by-verdict undoEvent (λ why. refl) p (λ v. undone-step (undoable b v .some))
   step (seals answer p) = by-verdict (outcomeEvent seal) (λ why. refl) p (λ v. sealed-step)

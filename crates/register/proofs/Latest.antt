@@ -10,7 +10,7 @@ use Rattle.image.specs.Formed.{wellFormed}
 use Rattle.image.proofs.WellFormed.{formed}
 use Rattle.changes.specs.Changes.{marked, latest, undone}
 
-module _ (b : List ℕ) (w : wellFormed b ≡ true) (count at n : ℕ) (e : count ≡ journalCount b) (some : count ≡ 0 → ⊥)
+module _ (b : List ℕ) (w : wellFormed b ≡ true) (count at n : ℕ) (e : count ≡ journalCount b) (some : 1 ≤ journalCount b)
     (a : at ≡ journalOffset b)
     (i : n ≡ number b (at + entrySize * (count - 1))) where
   pub latest-read : n ≡ latest b

@@ -15,17 +15,16 @@ use refusal::NOT_ACTIVE;
 use refusal::Outcome;
 use refusal::refuse;
 ghost use mathlib.Core.Path.{_≡_};
-ghost use mathlib.Core.Bool.{true};
-ghost use Rattle.image.specs.Formed.{wellFormed};
-ghost use Rattle.image.specs.Header.{Header};
 ghost use Rattle.register.specs.Calls.{Withdraws};
+ghost use Rattle.register.specs.Inner.{withdrawalAnswer};
 
-// 16, 17, 15, and the change.
-fn withdraw_number(image: &mut [u8], number: u64) -> Outcome
-    requires { ⌜ Header (now image) ⌝ }
-    requires { ⌜ wellFormed (now image) ≡ true ⌝ }
-    ensures { λ r. ⌜ Withdraws (now (image .entry)) number r (now (image .exit)) ⌝ }
+// The tests 10, 16, 17, 15.
+fn check_withdrawal(image: &[u8], number: u64) -> Outcome
+    ensures { λ r. ⌜ r ≡ withdrawalAnswer (now (image .entry)) number ⌝ }
 {
+    if !well_formed(image) {
+        return Outcome::Refused(refuse(IMAGE_NOT_WELL_FORMED, 0));
+    }
     let issued = read_number(image, ISSUED_AT) as u64;
     if number == 0 {
         return Outcome::Refused(refuse(NO_SUCH_NUMBER, issued));
@@ -33,15 +32,13 @@ fn withdraw_number(image: &mut [u8], number: u64) -> Outcome
     if issued < number {
         return Outcome::Refused(refuse(NO_SUCH_NUMBER, issued));
     }
-    let i = number as usize;
-    if status_of(image, i) != ACTIVE {
+    if status_of(image, number as usize) != ACTIVE {
         return Outcome::Refused(refuse(NOT_ACTIVE, number));
     }
     let capacity = read_number(image, JOURNAL_CAPACITY_AT);
     if capacity <= read_number(image, JOURNAL_COUNT_AT) {
         return Outcome::Refused(refuse(NO_JOURNAL_ROOM, capacity as u64));
     }
-    change(image, i, INACTIVE);
     Outcome::Accepted
 }
 
@@ -49,8 +46,11 @@ fn withdraw_number(image: &mut [u8], number: u64) -> Outcome
 pub fn withdraw(image: &mut [u8], number: u64) -> Outcome
     ensures { λ r. ⌜ Withdraws (now (image .entry)) number r (now (image .exit)) ⌝ }
 {
-    if !well_formed(image) {
-        return Outcome::Refused(refuse(IMAGE_NOT_WELL_FORMED, 0));
+    match check_withdrawal(image, number) {
+        Outcome::Accepted => {
+            change(image, number as usize, INACTIVE);
+            Outcome::Accepted
+        }
+        Outcome::Refused(why) => Outcome::Refused(why),
     }
-    withdraw_number(image, number)
 }

@@ -3,10 +3,10 @@ use native.Mathlib.Omega.{arith}
 use mathlib.Core.Path.{refl, _∙_, sym}
 use borrow.Author.Tests.{not-true, not-false}
 use borrow.Author.Needs.{needs}
-use Rattle.image.proofs.WellFormed.{formed}
 use Rattle.changes.specs.Changes.{sealed}
 use Rattle.register.specs.Calls.{Seals}
 use Rattle.refusal.proofs.Keeps.{keeps-refused, keeps-accepted}
+use Rattle.register.proofs.Accepted.{header-room}
 use Rattle.register.proofs.undoing.seal.Statement.{statement}
 use Rattle.register.proofs.undoing.seal.Tie as tie
 
@@ -25,8 +25,7 @@ returns c = keeps-refused _ _ _ _ _ _ (rw (c .refuse .ensures, sym (c .before .b
 
 put-number-requires : tie.Need-put-number-requires
 put-number-requires c κs =
-    let h = formed _ (sym (c .before .before .well-formed .ensures) ∙ not-false _ (c .before .if1 .left)) .header in
-    omega (arith, h .after-header, h .pool, h .whole)
+    omega (arith, header-room _ (sym (c .before .before .well-formed .ensures) ∙ not-false _ (c .before .if1 .left)))
 
 same-length-2 : tie.Need-same-length-2
 same-length-2 c = search needs

@@ -1,43 +1,60 @@
--- The test, and the rest behind it.
-use mathlib.Core.Path.{_∙_, sym}
-use borrow.Author.Tests.{not-true, not-false}
+-- The tests, and the change.
+use mathlib.Core.Path.{refl, _∙_, sym}
 use borrow.Author.Needs.{needs}
+use Rattle.refusal.specs.Verdict.{verdict}
+use Rattle.refusal.proofs.Verdict.{outcome-accepted, outcome-refused}
+use Rattle.refusal.proofs.Keeps.{keeps-refused, keeps-accepted}
 use Rattle.image.proofs.WellFormed.{formed}
+use Rattle.changes.specs.Changes.{withdrawn}
 use Rattle.register.specs.Calls.{withdrawalGrounds, Withdraws}
-use Rattle.refusal.proofs.Keeps.{keeps-refused}
+use Rattle.register.proofs.Accepted.{withdrawable}
 use Rattle.register.proofs.withdrawal.withdraw.Statement.{statement}
 use Rattle.register.proofs.withdrawal.withdraw.Tie as tie
 
-well-formed-requires : tie.Need-well-formed-requires
-well-formed-requires c κs = search needs
+check-withdrawal-requires : tie.Need-check-withdrawal-requires
+check-withdrawal-requires c κs = search needs
 
-refuse-requires : tie.Need-refuse-requires
-refuse-requires c κs = search needs
+enum-told : tie.Need-enum-told
+enum-told c = search needs
+
+change-requires : tie.Need-change-requires
+change-requires c κs =
+    let e = sym (c .before .enum-told .given .1) ∙ c .before .before .before .check-withdrawal .ensures in
+    let w = withdrawable _ _ (outcome-accepted (verdict (withdrawalGrounds _ _)) e) in
+    (formed _ (w .formed) .header, ((w .from, w .to), w .room))
+
+enum-known-why : tie.Need-enum-known-why
+enum-known-why c = search needs
 
 same-length : tie.Need-same-length
 same-length c = search needs
 
 returns : tie.Need-returns
-unfolding Withdraws withdrawalGrounds
-returns c = keeps-refused _ _ _ _ _ _ (rw (c .refuse .ensures, sym (c .before .before .well-formed .ensures) ∙ not-true _ (c .before .if1 .taken)))
-
-withdraw-number-requires : tie.Need-withdraw-number-requires
-withdraw-number-requires c κs = let e = sym (c .before .before .well-formed .ensures) ∙ not-false _ (c .before .if1 .left) in (formed _ e .header, e)
+unfolding Withdraws withdrawn
+returns c =
+    let t = c .before .before .before .before in
+    keeps-accepted _ _ _ _ _ _ _
+    (outcome-accepted _ (sym (t .enum-told .given .1) ∙ t .before .before .check-withdrawal .ensures))
+    refl (c .before .before .change .ensures)
 
 same-length-2 : tie.Need-same-length-2
 same-length-2 c = search needs
 
 returns-2 : tie.Need-returns-2
-returns-2 c = c .before .before .withdraw-number .ensures
+unfolding Withdraws
+returns-2 c =
+    keeps-refused _ _ _ _ _ _
+    (outcome-refused _ _ (sym (c .before .why .given .1) ∙ c .before .before .before .check-withdrawal .ensures))
 
 pub withdraw-spec : {M : Type 1} → statement M
 withdraw-spec =
     tie.close
     (tie.spec
-    well-formed-requires
-    refuse-requires
+    check-withdrawal-requires
+    enum-told
+    change-requires
+    enum-known-why
     same-length
     returns
-    withdraw-number-requires
     same-length-2
     returns-2)
