@@ -5,13 +5,13 @@ use mathlib.Core.Path.{_≡_}
 use mathlib.Core.Bool.{false}
 use mathlib.Core.List.{List, [], _∷_, _++_}
 use lib.ListN.{length}
-use borrow.Author.Tests.{not-false, leb-false, ltb-false, eqb-true, eqb-false}
+use borrow.Author.Tests.{not-false, eqb-true}
 use Rattle.stretch.specs.Same.{same}
 use Rattle.refusal.specs.Verdict.{accepted, verdict}
 use Rattle.refusal.proofs.Verdict.{none-holds, verdict-fewer, verdict-later}
 use Rattle.normal.specs.Form.{altered, normal}
 use Rattle.forming.specs.Calls.{formGrounds}
-use Rattle.image.specs.Fields.{journalCapacity, journalCount, referenceLength, statusOf, active}
+use Rattle.image.specs.Fields.{referenceLength}
 use Rattle.numbering.specs.Found.{found}
 use Rattle.numbering.specs.Calls.{roomGrounds}
 use Rattle.entering.specs.Calls.{imageGrounds, unchangedAllele, changeGrounds, entryGrounds}

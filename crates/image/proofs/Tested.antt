@@ -10,8 +10,8 @@ use borrow.Author.Tests.{leb-true, eqb-true}
 use Rattle.stretch.specs.Below.{below}
 use Rattle.stretch.specs.Class.{every}
 use Rattle.letters.specs.Letters.{base64url}
-use Rattle.image.specs.Fields.{headerSize, edition, issued, journalCount, poolCapacity, poolUsed, sequenceDigest, firstEdition, recordsOffset, poolOffset, journalPlace, poolPlace, recordCapacity, journalCapacity, journalOffset}
-use Rattle.image.specs.Formed.{all, laidOut, countsWithin, withinLimits, lengths, recordGood, entryGood, wellFormed, headerFormed}
+use Rattle.image.specs.Fields.{headerSize, edition, issued, journalCount, poolUsed, sequenceDigest, firstEdition, recordsOffset, poolOffset, journalPlace, poolPlace, recordCapacity, journalCapacity, journalOffset}
+use Rattle.image.specs.Formed.{laidOut, countsWithin, withinLimits, lengths, recordGood, entryGood, wellFormed, headerFormed}
 use Rattle.image.specs.Header.{Header}
 use Rattle.image.proofs.Arranged.{header-journal, journal-pool}
 use Rattle.image.proofs.Tests.{all-append, all-one, both, last}

@@ -26,7 +26,7 @@ ghost use lib.ListN.{length};
 ghost use Rattle.stretch.specs.Class.{every};
 ghost use Rattle.letters.specs.Letters.{base64url};
 ghost use Rattle.image.specs.Fields.{headerSize, poolCapacity, sequenceDigest, poolOffset};
-ghost use Rattle.image.specs.Formed.{all, laidOut, countsWithin, withinLimits, headerFormed};
+ghost use Rattle.image.specs.Formed.{laidOut, countsWithin, withinLimits, headerFormed};
 
 const REFERENCE_LIMIT: usize = refusal::REFERENCE_LIMIT as usize;
 

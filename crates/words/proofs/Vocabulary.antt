@@ -4,7 +4,7 @@ use native.Mathlib.Omega.{arith}
 use mathlib.Core.Path.{_≡_, refl, _∙_, sym, ap}
 use mathlib.Core.Bool.{true, false}
 use mathlib.Core.List.{List, [], _∷_, _++_}
-use lib.ListN.{length, getD, replicate, length-append, List·getD-append}
+use lib.ListN.{length, getD, replicate, length-append}
 use lib.Seq.{append-snoc, getD-at}
 use Rattle.letters.specs.Letters.{residue, base64url, digestLength}
 use Rattle.stretch.specs.Class.{every}

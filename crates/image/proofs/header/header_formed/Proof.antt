@@ -1,13 +1,7 @@
 -- The bytes of a header first.
 use borrow.Author.Needs.{needs}
 use Prim.Native.Nat.{_+_}
-use lib.Dec.{leb}
-use lib.ListN.{length}
-use Rattle.stretch.specs.Class.{every}
-use Rattle.letters.specs.Letters.{base64url}
-use Rattle.image.specs.Fields.{poolCapacity, sequenceDigest, poolOffset}
-use Rattle.image.specs.Formed.{laidOut, countsWithin, withinLimits, headerFormed}
-use Rattle.image.proofs.Tests.{all-five}
+use Rattle.image.specs.Formed.{headerFormed}
 use borrow.Author.Tests.{lt-leb}
 use Rattle.image.proofs.header.header_formed.Statement.{statement}
 use Rattle.image.proofs.header.header_formed.Tie as tie
