@@ -1,13 +1,13 @@
 // Normal forms: document 01's worked alleles, and each refusal that short slices can meet, at its
 // boundary.
-use forming::Form;
-use forming::Normalised;
-use normal::Kind;
-use print::labelled;
-use print::part;
-use print::refused;
-use print::shown;
-use print::text;
+use normal_form::Kind;
+use normal_form_calls::Form;
+use normal_form_calls::Normalised;
+use printer::labelled;
+use printer::part;
+use printer::refused;
+use printer::shown;
+use printer::text;
 ghost use Prim.Native.Nat.{_≤_};
 
 fn kind_name(kind: Kind) {
@@ -47,7 +47,7 @@ fn line(reference: &[u8], start: u64, end: u64, replacement: &[u8], out: &mut [u
     given(reference, start, end, replacement);
     labelled(b" place ", place);
     labelled(b" room ", out.len() as u64);
-    let found = forming::normal_form(reference, start, end, replacement, out, place);
+    let found = normal_form_calls::normal_form(reference, start, end, replacement, out, place);
     answered(out, place, found);
 }
 

@@ -1,12 +1,12 @@
 // Texts read: what reading one answers, and texts that are refused, at each part.
-use print::labelled;
-use print::refused;
-use print::shown;
-use print::text;
-use print::two;
-use reading::AlleleRead;
-use reading::LocationParts;
-use reading::LocationRead;
+use printer::labelled;
+use printer::refused;
+use printer::shown;
+use printer::text;
+use printer::two;
+use text_reader::AlleleRead;
+use text_reader::LocationParts;
+use text_reader::LocationRead;
 
 fn location_parts(parts: LocationParts, digest: &[u8]) {
     labelled(b" read ", parts.start);
@@ -17,8 +17,8 @@ fn location_parts(parts: LocationParts, digest: &[u8]) {
 
 // What reading `s` as a location text answers, to the end of the line.
 pub fn location(s: &[u8]) {
-    match reading::read_location(s) {
-        LocationRead::Accepted(parts) => location_parts(parts, reading::digest_of(s)),
+    match text_reader::read_location(s) {
+        LocationRead::Accepted(parts) => location_parts(parts, text_reader::digest_of(s)),
         LocationRead::Refused(r) => refused(r),
     }
     text(b"\n");
@@ -26,8 +26,12 @@ pub fn location(s: &[u8]) {
 
 // What reading `s` as an allele text answers, to the end of the line.
 pub fn allele(s: &[u8]) {
-    match reading::read_allele(s) {
-        AlleleRead::Accepted(_) => two(b" read ", reading::location_of(s), reading::sequence_of(s)),
+    match text_reader::read_allele(s) {
+        AlleleRead::Accepted(_) => two(
+            b" read ",
+            text_reader::location_of(s),
+            text_reader::sequence_of(s),
+        ),
         AlleleRead::Refused(r) => refused(r),
     }
     text(b"\n");
@@ -45,7 +49,7 @@ fn allele_line(s: &[u8]) {
     allele(s);
 }
 
-// Nothing; a text cut off; a digit behind a first 0; an end over the limit; two starts above the end.
+// Nothing; a text cut off; a digit after a first 0; an end over the limit; two starts above the end.
 fn numbers() {
     location_line(b"");
     location_line(b"{\"interval\":{\"end\":10,\"sta");
@@ -55,7 +59,7 @@ fn numbers() {
     location_line(b"{\"interval\":{\"end\":5,\"start\":6,");
 }
 
-// A digest of 33 characters; a byte behind the text.
+// A digest of 33 characters; a byte after the text.
 fn locations() {
     location_line(
         b"{\"interval\":{\"end\":10,\"start\":1,\"type\":\"SimpleInterval\"},\"sequence_id\":\"aKF498dAxcJAqme6QYQ7EZ07-fiw8Kw2A\",\"type\":\"SequenceLocation\"}",

@@ -1,12 +1,12 @@
 // Texts and identifiers: of the locations and alleles that source document 001 publishes, and of
 // alleles of document 01; and what reading each text answers.
 use crate::readings;
-use print::labelled;
-use print::part;
-use print::shown;
-use print::text;
-use print::two;
-use print::written_text;
+use printer::labelled;
+use printer::part;
+use printer::shown;
+use printer::text;
+use printer::two;
+use printer::written_text;
 use refusal::REFERENCE_LIMIT;
 use refusal::Written;
 ghost use Prim.Native.Nat.{_+_, _≤_};
@@ -35,7 +35,14 @@ fn location_given(label: &[u8], start: u64, end: u64, digest: &[u8]) {
 
 fn location_text_line(start: u64, end: u64, digest: &[u8]) {
     let mut space = [0u8; ROOM];
-    let answer = locations::location_text(REFERENCE_LIMIT, start, end, digest, &mut space, 0);
+    let answer = location_identifier::location_text(
+        REFERENCE_LIMIT,
+        start,
+        end,
+        digest,
+        &mut space,
+        0,
+    );
     location_given(b"location-text ", start, end, digest);
     written_text(&space, 0, answer);
     readings::location(front(&space, answer));
@@ -43,7 +50,14 @@ fn location_text_line(start: u64, end: u64, digest: &[u8]) {
 
 fn location_identifier_line(start: u64, end: u64, digest: &[u8]) {
     let mut space = [0u8; ROOM];
-    let answer = locations::location_identifier(REFERENCE_LIMIT, start, end, digest, &mut space, 0);
+    let answer = location_identifier::location_identifier(
+        REFERENCE_LIMIT,
+        start,
+        end,
+        digest,
+        &mut space,
+        0,
+    );
     location_given(b"location-identifier ", start, end, digest);
     written_text(&space, 0, answer);
     text(b"\n");
@@ -63,7 +77,7 @@ fn laid_text_line(location: &[u8], replacement: &[u8], laid: &[u8]) {
 fn laid_identifier_line(location: &[u8], replacement: &[u8], laid: &[u8]) {
     let mut space = [0u8; ROOM];
     let hash = sha512::of_message(laid);
-    let answer = encoding::place_identifier(&mut space, 0, b"ga4gh:VA.", &hash);
+    let answer = digest_text::place_identifier(&mut space, 0, b"ga4gh:VA.", &hash);
     two(b"laid-allele-identifier ", location, replacement);
     written_text(&space, 0, answer);
     text(b"\n");
@@ -97,7 +111,15 @@ fn allele_given(
 
 fn allele_text_line(reference: &[u8], start: u64, end: u64, replacement: &[u8], digest: &[u8]) {
     let mut space = [0u8; ROOM];
-    let answer = identify::allele_text(reference, start, end, replacement, digest, &mut space, 0);
+    let answer = allele_identifier::allele_text(
+        reference,
+        start,
+        end,
+        replacement,
+        digest,
+        &mut space,
+        0,
+    );
     allele_given(b"allele-text ", reference, start, end, replacement, digest);
     written_text(&space, 0, answer);
     readings::allele(front(&space, answer));
@@ -111,7 +133,7 @@ fn allele_identifier_line(
     digest: &[u8],
 ) {
     let mut space = [0u8; ROOM];
-    let answer = identify::allele_identifier(
+    let answer = allele_identifier::allele_identifier(
         reference,
         start,
         end,

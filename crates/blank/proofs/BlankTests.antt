@@ -1,4 +1,4 @@
--- The answers of the tests of a blank image, one behind the other, and what an accepted one tells of its arguments.
+-- The answers of the tests of a blank image, one after the other, and what an accepted one tells of its arguments.
 use Prim.Native.Nat.{ℕ, _≤_}
 use native.Mathlib.Omega.{arith}
 use mathlib.Core.Path.{_≡_}
@@ -11,26 +11,35 @@ use Rattle.refusal.specs.Limits.{referenceLimit}
 use Rattle.refusal.specs.declared.Refusal.{Refusal}
 use Rattle.refusal.specs.declared.Outcome.the-variants.{Accepted, Refused}
 use Rattle.refusal.specs.Verdict.{ground, accepted, verdict}
-use Rattle.refusal.proofs.Verdict.{none-holds, verdict-first, verdict-then, verdict-fewer, verdict-later, outcome-accepted, outcome-refused}
+use Rattle.refusal.proofs.Verdict.{none-holds, verdict-first, verdict-then, verdict-fewer, verdict-later}
+use Rattle.refusal.proofs.Verdict.{outcome-accepted, outcome-refused}
 use Rattle.stretch.specs.Class.{every}
-use Rattle.letters.specs.Letters.{base64url, digestTextGrounds, digestTextAnswer}
-use Rattle.letters.proofs.DigestText.{digest-long, digest-all}
+use Rattle.alphabets.specs.Alphabets.{base64url, digestTextGrounds, digestTextAnswer}
+use Rattle.alphabets.proofs.DigestText.{digest-long, digest-all}
 use Rattle.image.specs.Fields.{headerSize, countLimit, poolLimit, imageSize}
 use Rattle.image.proofs.Arranged.{header-journal, journal-pool}
 use Rattle.blank.specs.Calls.{capacityGrounds, blankGrounds}
 use Rattle.blank.specs.Inner.{capacityAnswer, blankAnswer}
 
--- 9 behind 1 and 7
+-- 9 after 1 and 7
 module _ (room n : ℕ) (digest : List ℕ) (records journal pool : ℕ) where
   pub blank-then : ltb referenceLimit n ≡ false → Accepted ≡ digestTextAnswer digest
       → capacityAnswer room records journal pool ≡ blankAnswer room n digest records journal pool
   unfolding blankGrounds
-  blank-then l e = rw (l, verdict-then (digestTextGrounds digest) (capacityGrounds room records journal pool) (outcome-accepted _ e))
+  blank-then l e = rw (
+    l,
+    verdict-then (digestTextGrounds digest) (capacityGrounds room records journal pool) (outcome-accepted _ e),
+  )
 
   pub blank-digest : ltb referenceLimit n ≡ false → (why : Refusal) → Refused why ≡ digestTextAnswer digest
       → Refused why ≡ blankAnswer room n digest records journal pool
   unfolding blankGrounds
-  blank-digest l why e = rw (l, verdict-first (digestTextGrounds digest) (capacityGrounds room records journal pool) why (outcome-refused _ why e))
+  blank-digest l why e =
+      rw (
+        l,
+        verdict-first (digestTextGrounds digest) (capacityGrounds room records journal pool) why
+            (outcome-refused _ why e),
+      )
 
 -- an accepted blank: the reference's length and the capacities within their limits, 32 base64url characters, and room
 pub record Blankable (room n : ℕ) (digest : List ℕ) (records journal pool : ℕ) : Type 0 where
@@ -43,10 +52,11 @@ pub record Blankable (room n : ℕ) (digest : List ℕ) (records journal pool : 
   pub fits : imageSize records journal pool ≤ room
   pub headed : headerSize ≤ room
 
-pub blankable : (room n : ℕ) (digest : List ℕ) (records journal pool : ℕ) → verdict (blankGrounds room n digest records journal pool) ≡ accepted
+pub accepted-blankable : (room n : ℕ) (digest : List ℕ) (records journal pool : ℕ)
+    → verdict (blankGrounds room n digest records journal pool) ≡ accepted
     → Blankable room n digest records journal pool
 unfolding blankGrounds
-blankable room n digest records journal pool v =
+accepted-blankable room n digest records journal pool v =
     let one = ground (ltb referenceLimit n) 1 0 ∷ [] in
     let seven = digestTextGrounds digest in
     let nine = capacityGrounds room records journal pool in

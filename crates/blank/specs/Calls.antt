@@ -7,7 +7,7 @@ use Rattle.refusal.specs.Grounds.{referenceOverLimit}
 use Rattle.refusal.specs.Verdict.{Ground, ground, verdict}
 use Rattle.refusal.specs.declared.Outcome.{Outcome}
 use Rattle.refusal.specs.declared.Outcome.the-variants.{Accepted, Refused}
-use Rattle.letters.specs.Letters.{digestTextGrounds}
+use Rattle.alphabets.specs.Alphabets.{digestTextGrounds}
 use Rattle.image.specs.Fields.{countLimit, poolLimit, imageSize}
 use Rattle.changes.specs.Changes.{blanked}
 use Rattle.refusal.specs.Keeps.{Keeps}
@@ -35,4 +35,5 @@ blankGrounds room n digest records journal pool =
 
 abbrev pub Blanks : List ℕ → ℕ → List ℕ → ℕ → ℕ → ℕ → Outcome → List ℕ → Type 0
 Blanks b n digest records journal pool =
-    Keeps Refused (verdict (blankGrounds (length b) n digest records journal pool)) Accepted b (blanked b n digest records journal pool)
+    Keeps Refused (verdict (blankGrounds (length b) n digest records journal pool)) Accepted b
+    (blanked b n digest records journal pool)

@@ -1,4 +1,4 @@
--- What the functions behind a blank's tests promise.
+-- What the functions after a blank's tests promise.
 use Prim.Native.Nat.{ℕ}
 use mathlib.Core.List.{List}
 use Rattle.refusal.specs.Verdict.{verdict, tell}
@@ -11,4 +11,5 @@ abbrev pub capacityAnswer : ℕ → ℕ → ℕ → ℕ → Outcome
 capacityAnswer room records journal pool = tell Refused (verdict (capacityGrounds room records journal pool)) Accepted
 
 abbrev pub blankAnswer : ℕ → ℕ → List ℕ → ℕ → ℕ → ℕ → Outcome
-blankAnswer room n digest records journal pool = tell Refused (verdict (blankGrounds room n digest records journal pool)) Accepted
+blankAnswer room n digest records journal pool =
+    tell Refused (verdict (blankGrounds room n digest records journal pool)) Accepted

@@ -1,4 +1,5 @@
 // A blank image: its header, with no number issued.
+use alphabets::check_digest_text;
 use changes::put_four;
 use image::COUNT_LIMIT;
 use image::DIGEST_AT;
@@ -13,7 +14,6 @@ use image::REFERENCE_LENGTH_AT;
 use image::journal_at;
 use image::pool_at;
 use image::put_number;
-use letters::check_digest_text;
 use refusal::NO_ROOM_FOR_IMAGE;
 use refusal::OVER_LIMIT;
 use refusal::Outcome;

@@ -3,7 +3,7 @@ use Prim.Native.Nat.{ℕ, _+_, _-_}
 use mathlib.Core.List.{List}
 use lib.ListN.{length}
 use Rattle.stretch.specs.Over.{over}
-use Rattle.normal.specs.Form.{Normal}
+use Rattle.normal_form.specs.Form.{Normal}
 use Rattle.image.specs.Numbers.{put}
 use Rattle.image.specs.Fields.{issued, issuedPlace, journalCount, journalCountPlace, poolOffset, poolUsed}
 use Rattle.image.specs.Fields.{poolUsedPlace, recordPlace, recordOf, statusPlace, statusOf, active, inactive}
@@ -28,7 +28,7 @@ withdrawn b i = journalled b (marked b i inactive) i
 unfoldable pub reentered : List ℕ → ℕ → List ℕ
 reentered b i = journalled b (marked b i active) i
 
--- a form in the next record, its replacement behind those in the pool, and both counted
+-- a form in the next record, its replacement after those in the pool, and both counted
 unfoldable pub recorded : List ℕ → Normal → List ℕ
 recorded b f =
     over b (recordPlace (issued b + 1)) (recordOf (f .start) (f .end) (poolUsed b) (length (f .replacement)) active)

@@ -6,7 +6,8 @@ use lib.Dec.{leb, ltb, eqb}
 use lib.ListN.{length}
 use Rattle.stretch.specs.Same.{same}
 use Rattle.refusal.specs.Verdict.{Ground, ground}
-use Rattle.image.specs.Fields.{recordCapacity, issued, journalCapacity, journalCount, poolCapacity, poolUsed, referenceLength, sequenceDigest, statusOf, active}
+use Rattle.image.specs.Fields.{recordCapacity, issued, journalCapacity, journalCount, poolCapacity, poolUsed}
+use Rattle.image.specs.Fields.{referenceLength, sequenceDigest, statusOf, active}
 use Rattle.image.specs.Formed.{wellFormed}
 
 -- 10

@@ -1,5 +1,5 @@
 // What changes write in a well-formed image (document 01, "The register image"). The calls of `blank`,
-// `entering` (by `numbering`) and `register` are made of these.
+// `entry` (by `form_entry`) and `register` are made of these.
 //
 // specs/Changes.antt has what each change leaves of the image, and specs/Grounds.antt the grounds on which calls on an image
 // promises.

@@ -1,5 +1,4 @@
 // The writes that the changes are made of.
-use forming::Form;
 use image::ACTIVE;
 use image::ENTRY_SIZE;
 use image::ISSUED_AT;
@@ -11,6 +10,7 @@ use image::STATUS_IN_RECORD;
 use image::put_number;
 use image::read_number;
 use image::record_at;
+use normal_form_calls::Form;
 use stretch::put_three;
 ghost use mathlib.Core.Path.{_≡_};
 ghost use mathlib.Core.List.{[], _∷_, _++_};
@@ -25,7 +25,7 @@ ghost use Rattle.image.specs.Header.{Header};
 ghost use Rattle.lookup.specs.Lookup.{asked};
 ghost use Rattle.changes.specs.Changes.{journalled, marked, numbered};
 
-// Puts four numbers, one behind the other.
+// Puts four numbers, one after the other.
 pub fn put_four(image: &mut [u8], at: usize, a: usize, b: usize, c: usize, d: usize)
     requires { ⌜ at + 16 ≤ length (now image) ⌝ }
     ensures { λ _. ⌜ now (image .exit) ≡ over (now (image .entry)) at (numbers (a ∷ b ∷ c ∷ d ∷ [])) ⌝ }
@@ -45,7 +45,7 @@ pub fn mark(image: &mut [u8], number: usize, status: usize)
     put_number(image, record_at(number) + STATUS_IN_RECORD, status);
 }
 
-// Puts a number in the journal that begins at `at`, behind so many entries, and counts it.
+// Puts a number in the journal that begins at `at`, after so many entries, and counts it.
 fn journal(image: &mut [u8], at: usize, count: usize, number: usize)
     requires { ⌜ (headerSize ≤ at) × (count < countLimit) × (at + entrySize * count + 4 ≤ length (now image)) ⌝ }
     ensures { λ _. ⌜ now (image .exit) ≡ put (put (now (image .entry)) (at + entrySize * count) number) journalCountPlace (count + 1) ⌝ }

@@ -74,7 +74,8 @@ pub length-tenth : (n : ℕ) → 10 ≤ n → length (decimal n) ≡ length (dec
 length-tenth n h = rw (decimal-tenth n h, length-append)
 
 pub decimal-long : (n : ℕ) → 1 ≤ length (decimal n)
-decimal-long = by-tenths (λ n. 1 ≤ length (decimal n)) (λ n h. rw (decimal-below n h) (omega arith)) (λ n h l. omega (arith, length-tenth n h))
+decimal-long = by-tenths (λ n. 1 ≤ length (decimal n)) (λ n h. rw (decimal-below n h) (omega arith))
+    (λ n h l. omega (arith, length-tenth n h))
 
 -- a number of at most k + 1 digits
 pub decimal-short : (k n : ℕ) → n < 10 ^ suc k → length (decimal n) ≤ suc k
@@ -95,22 +96,28 @@ pub decimal-digits : (n i : ℕ) → i < length (decimal n) → (0x30 ≤ getD (
 decimal-digits =
     by-tenths (λ n. (i : ℕ) → i < length (decimal n) → (0x30 ≤ getD (decimal n) i 0) × (getD (decimal n) i 0 ≤ 0x39))
     (λ n h i. rw (decimal-below n h) (λ l. only n i h l))
-    (λ n h f i. rw (decimal-tenth n h) (λ l. more (decimal (n / 10)) (n % 10) i (omega arith) f (simp length-append at l)))
+    (λ n h f i. rw (decimal-tenth n h)
+    (λ l. more (decimal (n / 10)) (n % 10) i (omega arith) f (simp length-append at l)))
   where
     only : (n i : ℕ) → n < 10 → i < 1 → (0x30 ≤ getD (digit n ∷ []) i 0) × (getD (digit n ∷ []) i 0 ≤ 0x39)
     only n zero h l = (omega arith, omega arith)
     only n (suc i) h l = absurd (omega arith)
 
-    more : (s : List ℕ) (d i : ℕ) → d < 10 → ((j : ℕ) → j < length s → (0x30 ≤ getD s j 0) × (getD s j 0 ≤ 0x39)) → i < length s + 1
+    more : (s : List ℕ) (d i : ℕ) → d < 10 → ((j : ℕ) → j < length s → (0x30 ≤ getD s j 0) × (getD s j 0 ≤ 0x39))
+        → i < length s + 1
         → (0x30 ≤ getD (s ++ (digit d ∷ [])) i 0) × (getD (s ++ (digit d ∷ [])) i 0 ≤ 0x39)
     more s d i h f l =
         by-cases (ltb i (length s))
         (λ e. let j : i < length s = ltb-true i (length s) e in rw (List·getD-append s (digit d ∷ []) 0 i j) (f i j))
-        (λ e. let j : length s ≡ i = omega (arith, ltb-false i (length s) e) in rw (getD-at s (digit d) [] 0 i j) (omega arith, omega arith))
+        (λ e. let j : length s ≡ i = omega (arith, ltb-false i (length s) e) in
+        rw (getD-at s (digit d) [] 0 i j) (omega arith, omega arith))
 
 -- the first digit is 0 in the decimal of 0 alone
 pub decimal-front : (n : ℕ) → 0 < n → 0x31 ≤ getD (decimal n) 0 0
 decimal-front =
     by-tenths (λ n. 0 < n → 0x31 ≤ getD (decimal n) 0 0)
     (λ n h l. rw (decimal-below n h) (omega arith))
-    (λ n h f l. rw (decimal-tenth n h, List·getD-append (decimal (n / 10)) (digit (n % 10) ∷ []) 0 0 (decimal-long (n / 10))) (f (omega arith)))
+    (λ n h f l. rw (
+      decimal-tenth n h,
+      List·getD-append (decimal (n / 10)) (digit (n % 10) ∷ []) 0 0 (decimal-long (n / 10)),
+    ) (f (omega arith)))

@@ -66,8 +66,8 @@ module _ (least most : ℕ) (s : List ℕ) where
       (λ l. rw l)
 
   -- what is read is the decimal of a number within the limits, and such a decimal is read
-  pub reads : Reads least most s (numberWithin least most s)
-  reads =
+  pub numberOf-reads : Reads least most s (numberWithin least most s)
+  numberOf-reads =
       by-cases (leb least (value s))
       (λ l. by-cases (leb (value s) most)
       (λ h. by-cases (same s (decimal (value s)))

@@ -1,4 +1,4 @@
--- Writing a decimal: its one digit, or its last digit behind those of the tenth part.
+-- Writing a decimal: its one digit, or its last digit after those of the tenth part.
 use Prim.Native.Nat.{ℕ, _/_, _%_, _<_, _≤_}
 use native.Mathlib.Omega.{arith}
 use mathlib.Core.Path.{_≡_, _∙_, sym, ap}
@@ -16,7 +16,9 @@ module _ (l : List ℕ) (n : ℕ) where
   pub write-last : 10 ≤ n → length (decimal n) ≤ length l
       → set (over l 0 (decimal (n / 10))) (length (decimal (n / 10))) (digit (n % 10)) ≡ over l 0 (decimal n)
   write-last h g =
-      let long : length (over l 0 (decimal (n / 10))) ≡ length l = length-over l 0 (decimal (n / 10)) (omega (arith, length-tenth n h)) in
-      set-over (over l 0 (decimal (n / 10))) (length (decimal (n / 10))) (digit (n % 10)) (omega (arith, length-tenth n h))
+      let long : length (over l 0 (decimal (n / 10))) ≡ length l =
+      length-over l 0 (decimal (n / 10)) (omega (arith, length-tenth n h)) in
+      set-over (over l 0 (decimal (n / 10))) (length (decimal (n / 10))) (digit (n % 10))
+      (omega (arith, length-tenth n h))
       ∙ over-next l 0 (length (decimal (n / 10))) (decimal (n / 10)) (digit (n % 10) ∷ []) (omega arith) (omega arith)
       ∙ ap (over l 0) (sym (decimal-tenth n h))

@@ -40,7 +40,7 @@ pub fn write_decimal(out: &mut [u8], n: u64) -> usize
     at + 1
 }
 
-// Lays the decimal of `n` over `out` from `place` on, and answers the place behind it.
+// Lays the decimal of `n` over `out` from `place` on, and answers the place after it.
 pub fn put_decimal(out: &mut [u8], place: usize, n: u64) -> usize
     requires { ⌜ place + length (decimal n) ≤ length (now out) ⌝ }
     ensures { λ r. ⌜ Wrote (now (out .entry)) place (decimal n) (now (out .exit)) r ⌝ }

@@ -32,12 +32,14 @@ fields n records journal pool =
     ∷ n
     ∷ []
 
-module _ (b : List ℕ) (n : ℕ) (digest : List ℕ) (records journal pool : ℕ) (whole : length digest ≡ 32) (room : headerSize ≤ length b) where
+module _ (b : List ℕ) (n : ℕ) (digest : List ℕ) (records journal pool : ℕ) (whole : length digest ≡ 32)
+    (room : headerSize ≤ length b) where
   abbrev header : List ℕ
   header = numbers (fields n records journal pool) ++ digest
 
   header-length : length header ≡ headerSize
-  header-length = length-append (numbers (fields n records journal pool)) digest ∙ (rw (length-numbers (fields n records journal pool), whole))
+  header-length = length-append (numbers (fields n records journal pool)) digest
+      ∙ (rw (length-numbers (fields n records journal pool), whole))
 
   blanked-long : length (blanked b n digest records journal pool) ≡ length b
   unfolding blanked headerOf

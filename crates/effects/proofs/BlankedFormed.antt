@@ -8,7 +8,7 @@ use mathlib.Core.List.{List}
 use lib.ListN.{length}
 use Rattle.refusal.specs.Limits.{referenceLimit}
 use Rattle.stretch.specs.Class.{every}
-use Rattle.letters.specs.Letters.{base64url}
+use Rattle.alphabets.specs.Alphabets.{base64url}
 use Rattle.image.specs.Fields.{countLimit, poolLimit, poolPlace, issued, poolUsed, journalPlace}
 use Rattle.image.specs.Formed.{lengths, wellFormed}
 use Rattle.image.specs.Header.{Header}
@@ -20,7 +20,8 @@ use Rattle.effects.proofs.Seen.{Fresh}
 use Rattle.effects.proofs.Blanked.{blanked-seen}
 
 module _ (room n : ℕ) (d : List ℕ) (r j p : ℕ) (c : List ℕ) (f : Fresh room n d r j p c) where
-  blank-header : n ≤ referenceLimit → r ≤ countLimit → j ≤ countLimit → p ≤ poolLimit → poolPlace r j + p ≤ room → Header c
+  blank-header : n ≤ referenceLimit → r ≤ countLimit → j ≤ countLimit → p ≤ poolLimit → poolPlace r j + p ≤ room
+      → Header c
   blank-header reference records journal pool fits =
       record {
         journal = f .journal-at ∙ ap journalPlace (sym (f .records));
@@ -40,7 +41,8 @@ module _ (room n : ℕ) (d : List ℕ) (r j p : ℕ) (c : List ℕ) (f : Fresh r
   unfolding lengths
   lengths-none = rw (f .numbers, f .used)
 
-  pub fresh-formed : n ≤ referenceLimit → r ≤ countLimit → j ≤ countLimit → p ≤ poolLimit → every base64url d ≡ true → poolPlace r j + p ≤ room
+  pub fresh-formed : n ≤ referenceLimit → r ≤ countLimit → j ≤ countLimit → p ≤ poolLimit → every base64url d ≡ true
+      → poolPlace r j + p ≤ room
       → wellFormed c ≡ true
   fresh-formed reference records journal pool letters fits =
       let image : Formed c

@@ -16,7 +16,8 @@ use Rattle.image.specs.Fields.{recordPlace, statusPlace, entryPlace}
 use Rattle.image.specs.Header.{Header}
 use Rattle.image.proofs.Arranged.{fields-inside, record-header, record-order, record-apart, record-journal}
 use Rattle.image.proofs.Spared.{Aside}
-use Rattle.effects.proofs.Spares.{Unwritten, edition-on, records-on, journal-on, pool-on, record-of, status-of, entries, letters, Clear}
+use Rattle.effects.proofs.Spares.{Unwritten, edition-on, records-on, journal-on, pool-on, record-of, status-of}
+use Rattle.effects.proofs.Spares.{entries, letters, Clear}
 
 module _ (b : List ℕ) (h : Header b) (i : ℕ) where
   pub record-end : (j : ℕ) → 1 ≤ j → j ≤ issued b → recordPlace j + recordSize ≤ journalOffset b
@@ -43,15 +44,18 @@ module _ (b : List ℕ) (h : Header b) (i : ℕ) where
       beside _ _ letters = inr (omega (arith, h .after-header, h .pool))
 
   pub clear-issued : Clear b i issuedPlace 4
-  clear-issued = clear-header issuedPlace (omega arith) (inl (omega arith)) (inr (omega arith)) (inr (omega arith)) (inr (omega arith))
+  clear-issued = clear-header issuedPlace (omega arith) (inl (omega arith)) (inr (omega arith)) (inr (omega arith))
+      (inr (omega arith))
 
   pub clear-count : Clear b i journalCountPlace 4
-  clear-count = clear-header journalCountPlace (omega arith) (inl (omega arith)) (inl (omega arith)) (inr (omega arith)) (inr (omega arith))
+  clear-count = clear-header journalCountPlace (omega arith) (inl (omega arith)) (inl (omega arith))
+      (inr (omega arith)) (inr (omega arith))
 
   pub clear-used : Clear b i poolUsedPlace 4
-  clear-used = clear-header poolUsedPlace (omega arith) (inl (omega arith)) (inl (omega arith)) (inl (omega arith)) (inr (omega arith))
+  clear-used = clear-header poolUsedPlace (omega arith) (inl (omega arith)) (inl (omega arith)) (inl (omega arith))
+      (inr (omega arith))
 
-  -- a write behind the header
+  -- a write after the header
   clear-behind : (at n : ℕ) → headerSize ≤ at → at + n ≤ length b
       → ((j : ℕ) → 1 ≤ j → j ≤ issued b → Aside at n (recordPlace j) (statusPlace j))
       → ((j : ℕ) → 1 ≤ j → j ≤ issued b → (j ≡ i → ⊥) → Aside at n (statusPlace j) (statusPlace j + 4))

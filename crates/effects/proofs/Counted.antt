@@ -33,7 +33,7 @@ module _ (b : List ℕ) (h : Header b) (i : ℕ) (c : List ℕ) (long : length c
       spares-on b i c more (counted b c n) more-spares
       (spares-put b i more poolUsedPlace (poolUsed b + n) (more-spares .long ∙ long) (clear-used b h i))
 
-  -- a stretch behind the header
+  -- a stretch after the header
   pub counted-spared : (from to : ℕ) → headerSize ≤ from → Spared c (counted b c n) from to
   unfolding counted
   counted-spared from to l =

@@ -17,7 +17,8 @@ use Rattle.effects.proofs.Clear.{clear-count, clear-entry}
 abbrev pub nextEntry : List ℕ → ℕ
 nextEntry b = entryPlace b (journalCount b)
 
-module _ (b : List ℕ) (h : Header b) (room : journalCount b < journalCapacity b) (i : ℕ) (c : List ℕ) (long : length c ≡ length b) (n : ℕ) where
+module _ (b : List ℕ) (h : Header b) (room : journalCount b < journalCapacity b) (i : ℕ) (c : List ℕ)
+    (long : length c ≡ length b) (n : ℕ) where
   abbrev listed : List ℕ
   listed = put c (nextEntry b) n
 
@@ -34,7 +35,8 @@ module _ (b : List ℕ) (h : Header b) (room : journalCount b < journalCapacity 
       (spares-put b i listed journalCountPlace (journalCount b + 1) (listed-spares .long ∙ long) (clear-count b h i))
 
   -- stretches and numbers beside both
-  pub journalled-spared : (from to : ℕ) → Aside (nextEntry b) entrySize from to → Aside journalCountPlace 4 from to → Spared c (journalled b c n) from to
+  pub journalled-spared : (from to : ℕ) → Aside (nextEntry b) entrySize from to → Aside journalCountPlace 4 from to
+      → Spared c (journalled b c n) from to
   unfolding journalled
   journalled-spared from to s t =
       spared-on (spared-put c (nextEntry b) n (omega (arith, clear-entry b h i room .room)) from to s)
@@ -46,7 +48,8 @@ module _ (b : List ℕ) (h : Header b) (room : journalCount b < journalCapacity 
 
   pub journalled-count : journalCount (journalled b c n) ≡ journalCount b + 1
   unfolding journalled
-  journalled-count = number-put listed journalCountPlace (journalCount b + 1) listed-room (omega (arith, h .journal-limit))
+  journalled-count = number-put listed journalCountPlace (journalCount b + 1) listed-room
+      (omega (arith, h .journal-limit))
 
   pub journalled-entry : n < 2 ^ 32 → number (journalled b c n) (nextEntry b) ≡ n
   unfolding journalled

@@ -64,7 +64,8 @@ module _ (b : List ℕ) (h : Header b) (w : Inside b) where
               (same poolUsedPlace (inl (omega (arith, h .after-header))) (inr (omega arith)))
               (same (statusPlace i) (inl (omega (arith, end, fields-inside))) (inr (omega (arith, record-header i))));
           count = journalled-count b h room i c long i;
-          last = read-entry-at b i (journalled b c i) (spares-on b i b c (journalled b c i) marked-spares s) (journalCount b)
+          last = read-entry-at b i (journalled b c i) (spares-on b i b c (journalled b c i) marked-spares s)
+              (journalCount b)
               ∙ journalled-entry b h room i c long i (omega (arith, h .records, h .records-limit));
         }
 
@@ -76,24 +77,30 @@ module _ (b : List ℕ) (h : Header b) (w : Inside b) where
         let room : journalCountPlace ≤ length c = omega (arith, marked-spares .long, clear .room) in
         let same = number-aside c journalCountPlace m room in
         record {
-          restated = restated (put c journalCountPlace m) (spares-put b i c journalCountPlace m (marked-spares .long) clear)
+          restated = restated (put c journalCountPlace m)
+              (spares-put b i c journalCountPlace m (marked-spares .long) clear)
               (same issuedPlace (inl (omega arith)))
               (same poolUsedPlace (inr (omega arith)))
               (same (statusPlace i) (inr (omega (arith, record-header i))));
-          count = ap (λ (k : ℕ). k + 1) (number-put c journalCountPlace m room (omega (arith, h .journalled, h .journal-limit))) ∙ e;
+          count = ap (λ (k : ℕ). k + 1)
+              (number-put c journalCountPlace m room (omega (arith, h .journalled, h .journal-limit))) ∙ e;
         }
 
-  pub withdrawn-seen : (i : ℕ) → 1 ≤ i → i ≤ issued b → journalCount b < journalCapacity b → Journalled b (withdrawn b i) i inactive
+  pub withdrawn-seen : (i : ℕ) → 1 ≤ i → i ≤ issued b → journalCount b < journalCapacity b
+      → Journalled b (withdrawn b i) i inactive
   unfolding withdrawn
   withdrawn-seen i o g = journalled-seen i o g inactive (omega arith)
 
-  pub reentered-seen : (i : ℕ) → 1 ≤ i → i ≤ issued b → journalCount b < journalCapacity b → Journalled b (reentered b i) i active
+  pub reentered-seen : (i : ℕ) → 1 ≤ i → i ≤ issued b → journalCount b < journalCapacity b
+      → Journalled b (reentered b i) i active
   unfolding reentered
   reentered-seen i o g = journalled-seen i o g active (omega arith)
 
-  pub undone-seen : 1 ≤ journalCount b → 1 ≤ latest b → latest b ≤ issued b → TakenBack b (undone b) (latest b) (1 - statusOf b (latest b))
+  pub undone-seen : 1 ≤ journalCount b → 1 ≤ latest b → latest b ≤ issued b
+      → TakenBack b (undone b) (latest b) (1 - statusOf b (latest b))
   unfolding undone
-  undone-seen l o g = taken-seen (latest b) o g (1 - statusOf b (latest b)) (omega arith) (journalCount b - 1) (omega arith)
+  undone-seen l o g = taken-seen (latest b) o g (1 - statusOf b (latest b)) (omega arith) (journalCount b - 1)
+      (omega arith)
 
   -- no number is 0, so a seal leaves every status
   pub sealed-seen : Closed b (sealed b)

@@ -7,7 +7,7 @@ use mathlib.Core.Path.{_≡_, _∙_, sym, ap}
 use mathlib.Core.List.{List}
 use lib.ListN.{length, getD}
 use Rattle.stretch.specs.Part.{part}
-use Rattle.normal.specs.Form.{Normal}
+use Rattle.normal_form.specs.Form.{Normal}
 use Rattle.image.specs.Numbers.{number}
 use Rattle.image.specs.Fields.{headerSize, recordCapacity, issued, issuedPlace, journalCapacity, journalCount}
 use Rattle.image.specs.Fields.{poolCapacity, poolUsed, poolUsedPlace, poolOffset, recordPlace, startOf, offsetOf}
@@ -21,7 +21,8 @@ use Rattle.effects.proofs.Spares.{Spares, spares-on}
 use Rattle.effects.proofs.Read.{Inside, read-stays, read-status, read-entry-at}
 use Rattle.effects.proofs.Stored.{laid, stored, stored-spares, stored-number, stored-letters}
 use Rattle.effects.proofs.Counted.{counted-spares, counted-spared, counted-issued, counted-used}
-use Rattle.effects.proofs.Journalled.{nextEntry, journalled-spares, journalled-spared, journalled-number, journalled-count, journalled-entry}
+use Rattle.effects.proofs.Journalled.{nextEntry, journalled-spares, journalled-spared, journalled-number}
+use Rattle.effects.proofs.Journalled.{journalled-count, journalled-entry}
 
 module _ (b : List ℕ) (h : Header b) (f : Normal)
     (record-room : issued b < recordCapacity b)
@@ -42,10 +43,12 @@ module _ (b : List ℕ) (h : Header b) (f : Normal)
     numbered-spares : Spares b 0 b (numbered b f)
     unfolding numbered
     numbered-spares =
-        spares-on b 0 b tally (numbered b f) tally-spares (journalled-spares b h journal-room 0 tally (tally-spares .long) (issued b + 1))
+        spares-on b 0 b tally (numbered b f) tally-spares
+        (journalled-spares b h journal-room 0 tally (tally-spares .long) (issued b + 1))
 
     -- what is stored stays through the counts and the journal
-    numbered-spared : (from to : ℕ) → headerSize ≤ from → Aside (nextEntry b) 4 from to → Spared (stored b f) (numbered b f) from to
+    numbered-spared : (from to : ℕ) → headerSize ≤ from → Aside (nextEntry b) 4 from to
+        → Spared (stored b f) (numbered b f) from to
     unfolding numbered
     numbered-spared from to l a =
         spared-on (counted-spared b h 0 (stored b f) stored-long (length (f .replacement)) from to l)
@@ -102,7 +105,8 @@ module _ (b : List ℕ) (h : Header b) (f : Normal)
 
     numbered-entry : number (numbered b f) (nextEntry b) ≡ issued b + 1
     unfolding numbered
-    numbered-entry = journalled-entry b h journal-room 0 tally (tally-spares .long) (issued b + 1) (omega (arith, h .records-limit))
+    numbered-entry = journalled-entry b h journal-room 0 tally (tally-spares .long) (issued b + 1)
+        (omega (arith, h .records-limit))
 
     pub numbered-seen : Inside b → f .start < 2 ^ 32 → f .end < 2 ^ 32 → Issues b (numbered b f) f
     numbered-seen w l g =

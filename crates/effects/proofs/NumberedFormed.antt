@@ -1,4 +1,4 @@
--- An image in which the next number was issued is well formed.
+-- An image in which the next number was issued is well wellFormed-formed.
 use Prim.Native.Nat.{ℕ, suc, _+_, _<_, _≤_}
 use native.Mathlib.Nat.{eq-or-lt-of-le}
 use native.Mathlib.Numerals.{add-one}
@@ -9,18 +9,19 @@ use mathlib.Core.Bool.{true}
 use mathlib.Core.List.{List}
 use lib.ListN.{length}
 use Rattle.stretch.specs.Class.{every}
-use Rattle.letters.specs.Letters.{residue}
-use Rattle.normal.specs.Form.{Normal}
+use Rattle.alphabets.specs.Alphabets.{residue}
+use Rattle.normal_form.specs.Form.{Normal}
 use Rattle.image.specs.Fields.{recordCapacity, issued, journalCapacity, journalCount, poolCapacity, poolUsed}
 use Rattle.image.specs.Fields.{referenceLength}
 use Rattle.image.specs.Formed.{lengths, wellFormed}
-use Rattle.image.proofs.WellFormed.{FormedRecord, formed}
+use Rattle.image.proofs.WellFormed.{FormedRecord, wellFormed-formed}
 use Rattle.effects.proofs.Seen.{Issues}
 use Rattle.effects.proofs.StayFormed.{lengths-stay, record-stays, header-stays, entries-next, stay-formed}
 
 module _ (b c : List ℕ) (w : wellFormed b ≡ true) (f : Normal) (r : Issues b c f) where
   lengths-before : lengths c (issued b) ≡ poolUsed b
-  lengths-before = lengths-stay b c (formed b w) (r .stays) (issued b) (omega arith) ∙ formed b w .used
+  lengths-before = lengths-stay b c (wellFormed-formed b w) (r .stays) (issued b) (omega arith)
+      ∙ wellFormed-formed b w .used
 
   lengths-all : lengths c (issued c) ≡ poolUsed c
   unfolding lengths
@@ -39,7 +40,7 @@ module _ (b c : List ℕ) (w : wellFormed b ≡ true) (f : Normal) (r : Issues b
 
   records-next : FormedRecord c (issued b) → (k : ℕ) → k < issued c → FormedRecord c k
   records-next new k l =
-      let g = formed b w in
+      let g = wellFormed-formed b w in
       ⊎-elim
       (λ e. subst (FormedRecord c) (sym e) new)
       (λ h. let status = r .statuses (suc k) (omega arith) h in
@@ -52,7 +53,7 @@ module _ (b c : List ℕ) (w : wellFormed b ≡ true) (f : Normal) (r : Issues b
       → poolUsed b + length (f .replacement) ≤ poolCapacity b
       → wellFormed c ≡ true
   issues-formed order inside letters records journal pool =
-      let g = formed b w in
+      let g = wellFormed-formed b w in
       let s = r .stays in
       stay-formed b c g s
       (header-stays b c g s (omega arith) (omega (arith, r .count)) (omega (arith, r .used)))

@@ -13,7 +13,8 @@ use Rattle.image.specs.Fields.{lengthInRecord, statusPlace, offsetOf, lengthOf,
 use Rattle.image.specs.Fields.{entryOf, entrySize}
 use Rattle.image.proofs.Spared.{spared-number}
 use Rattle.effects.proofs.Seen.{Frame, Kept, Stays}
-use Rattle.effects.proofs.Spares.{Unwritten, edition-on, records-on, journal-on, pool-on, record-of, status-of, entries, letters, Spares}
+use Rattle.effects.proofs.Spares.{Unwritten, edition-on, records-on, journal-on, pool-on, record-of, status-of}
+use Rattle.effects.proofs.Spares.{entries, letters, Spares}
 
 -- the replacements lie within the letters of the pool
 abbrev pub Inside : List ℕ → Type 0

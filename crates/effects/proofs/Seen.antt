@@ -3,7 +3,7 @@ use Prim.Native.Nat.{ℕ, _+_, _<_, _≤_}
 use mathlib.Core.Path.{_≡_}
 use mathlib.Core.List.{List}
 use lib.ListN.{length}
-use Rattle.normal.specs.Form.{Normal}
+use Rattle.normal_form.specs.Form.{Normal}
 use Rattle.image.specs.Fields.{headerSize, journalPlace, poolPlace, edition, recordCapacity, issued, recordsOffset}
 use Rattle.image.specs.Fields.{journalCapacity, journalCount, journalOffset, poolCapacity, poolUsed, poolOffset}
 use Rattle.image.specs.Fields.{referenceLength, sequenceDigest, startOf, endOf, offsetOf, lengthOf, statusOf}

@@ -39,7 +39,8 @@ module _ (b : List ℕ) (i : ℕ) where
   spares-on c d e s t =
       record { long = t .long ∙ s .long; spared = λ from to w. spared-on (s .spared from to w) (t .spared from to w) }
 
-  pub spares-over : (c : List ℕ) (at : ℕ) (s : List ℕ) → length c ≡ length b → Clear b i at (length s) → Spares b i c (over c at s)
+  pub spares-over : (c : List ℕ) (at : ℕ) (s : List ℕ) → length c ≡ length b → Clear b i at (length s)
+      → Spares b i c (over c at s)
   spares-over c at s e w =
       record {
         long = length-over c at s (omega (arith, w .room));

@@ -1,4 +1,5 @@
--- A change that leaves the frame, the records and the journal keeps an image well formed: a mark, an undo, a seal.
+-- A change that leaves the frame, the records and the journal keeps an image well wellFormed-formed: a mark, an undo, a
+-- seal.
 use Prim.Native.Nat.{ℕ, suc, _+_, _<_, _≤_}
 use native.Mathlib.Nat.{eq-or-lt-of-le}
 use native.Mathlib.Omega.{arith}
@@ -14,7 +15,7 @@ use Rattle.image.specs.Fields.{poolUsed, statusOf, entryOf}
 use Rattle.image.specs.Formed.{lengths, wellFormed}
 use Rattle.image.specs.Header.{Header}
 use Rattle.image.proofs.Lengths.{lengths-same}
-use Rattle.image.proofs.WellFormed.{FormedRecord, FormedEntry, Formed, formed, well-formed}
+use Rattle.image.proofs.WellFormed.{FormedRecord, FormedEntry, Formed, wellFormed-formed, well-formed}
 use Rattle.effects.proofs.Seen.{Stays, Restated, Journalled, TakenBack, Closed}
 
 module _ (b c : List ℕ) (f : Formed b) (s : Stays b c) where
@@ -102,12 +103,16 @@ module _ (b c : List ℕ) (w : wellFormed b ≡ true) where
   restated-status i s r t k l =
       by-cases (eqb (suc k) i)
       (λ e. subst (λ (j : ℕ). statusOf c j ≤ 1) (sym (eqb-true (suc k) i e)) (omega (arith, r .now)))
-      (λ e. omega (arith, r .others (suc k) (omega arith) l (eqb-false (suc k) i e), formed b w .records k l .status))
+      (λ e. omega (
+        arith,
+        r .others (suc k) (omega arith) l (eqb-false (suc k) i e),
+        wellFormed-formed b w .records k l .status,
+      ))
 
   pub journalled-formed : (i s : ℕ) → Journalled b c i s → s ≤ 1 → 1 ≤ i → i ≤ issued b
       → journalCount b < journalCapacity b → wellFormed c ≡ true
   journalled-formed i s r t some numbered room =
-      let f = formed b w in
+      let f = wellFormed-formed b w in
       let now = r .restated in
       let same = now .numbers in
       same-numbers-formed b c f (now .stays) same (now .used) (restated-status i s now t) (omega (arith, r .count))
@@ -115,7 +120,7 @@ module _ (b c : List ℕ) (w : wellFormed b ≡ true) where
 
   pub taken-back-formed : (i s : ℕ) → TakenBack b c i s → s ≤ 1 → wellFormed c ≡ true
   taken-back-formed i s r t =
-      let f = formed b w in
+      let f = wellFormed-formed b w in
       let now = r .restated in
       same-numbers-formed b c f (now .stays) (now .numbers) (now .used) (restated-status i s now t)
       (omega (arith, r .count, f .header .journalled))
@@ -123,7 +128,7 @@ module _ (b c : List ℕ) (w : wellFormed b ≡ true) where
 
   pub closed-formed : Closed b c → wellFormed c ≡ true
   closed-formed r =
-      let f = formed b w in
+      let f = wellFormed-formed b w in
       same-numbers-formed b c f (r .stays) (r .numbers) (r .used)
       (λ k l. omega (arith, r .statuses (suc k) (omega arith) l, f .records k l .status))
       (omega (arith, r .count))

@@ -1,4 +1,4 @@
--- A form in the next record, its replacement behind those in the pool.
+-- A form in the next record, its replacement after those in the pool.
 use Prim.Native.Nat.{ℕ, _+_, _*_, _^_, _≤_, _<_}
 use native.Mathlib.Omega.{arith}
 use mathlib.Core.Logic.{inl}
@@ -7,7 +7,7 @@ use mathlib.Core.List.{List, [], _∷_}
 use lib.ListN.{length, getD}
 use Rattle.stretch.specs.Part.{part}
 use Rattle.stretch.proofs.Over.{part-over}
-use Rattle.normal.specs.Form.{Normal}
+use Rattle.normal_form.specs.Form.{Normal}
 use Rattle.image.specs.Numbers.{number, numbers}
 use Rattle.image.specs.Fields.{recordSize, recordCapacity, issued, poolCapacity, poolUsed, poolOffset, recordPlace}
 use Rattle.image.specs.Fields.{recordOf, active}

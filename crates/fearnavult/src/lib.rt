@@ -1,68 +1,68 @@
 // The C library: each public call as an exported function, flattened to C's shapes.
 // include/fearnavult.h declares them.
 //
-// Crate `flat` has the flattening and what every export promises.
-use flat::FvAllele;
-use flat::FvEntered;
-use flat::FvForm;
-use flat::FvLocation;
-use flat::FvOutcome;
-use flat::FvUndone;
-use flat::FvWritten;
-use flat::flat_allele;
-use flat::flat_entered;
-use flat::flat_form;
-use flat::flat_location;
-use flat::flat_outcome;
-use flat::flat_undone;
-use flat::flat_written;
+// Crate `c_answers` has the flattening and what every export promises.
+use c_answers::FvAllele;
+use c_answers::FvEntered;
+use c_answers::FvForm;
+use c_answers::FvLocation;
+use c_answers::FvOutcome;
+use c_answers::FvUndone;
+use c_answers::FvWritten;
+use c_answers::flat_allele;
+use c_answers::flat_entered;
+use c_answers::flat_form;
+use c_answers::flat_location;
+use c_answers::flat_outcome;
+use c_answers::flat_undone;
+use c_answers::flat_written;
 use sha512::Running;
 ghost use mathlib.Core.Path.{_≡_};
-ghost use Rattle.forming.specs.Calls.{Normalises};
-ghost use Rattle.reading.specs.Accepted.{ReadsLocation, ReadsAllele};
-ghost use Rattle.sha512.specs.Parts.{begun};
-ghost use Rattle.digest.specs.Calls.{Identifies, Finishes};
-ghost use Rattle.running.specs.Calls.{Feeds};
-ghost use Rattle.locations.specs.Calls.{SaysLocation, IdentifiesLocation};
-ghost use Rattle.identify.specs.Calls.{SaysAllele, IdentifiesAllele};
-ghost use Rattle.entering.specs.Calls.{Enters};
+ghost use Rattle.normal_form_calls.specs.Calls.{Normalises};
+ghost use Rattle.text_reader.specs.Accepted.{ReadsLocation, ReadsAllele};
+ghost use Rattle.sha512.specs.Feeding.{begun};
+ghost use Rattle.sequence_identifier.specs.Calls.{Identifies, Finishes};
+ghost use Rattle.running_digest.specs.Calls.{Feeds};
+ghost use Rattle.location_identifier.specs.Calls.{WritesLocation, IdentifiesLocation};
+ghost use Rattle.allele_identifier.specs.Calls.{WritesAllele, IdentifiesAllele};
+ghost use Rattle.entry.specs.Calls.{Enters};
 ghost use Rattle.blank.specs.Calls.{Blanks};
 ghost use Rattle.register.specs.Calls.{Withdraws, Undoes, Seals};
-ghost use Rattle.flat.specs.Flat.{flatWritten, flatForm, flatLocation, flatAllele, flatOutcome, flatEntered, flatUndone, Flattened};
+ghost use Rattle.c_answers.specs.Flat.{flatWritten, flatForm, flatLocation, flatAllele, flatOutcome, flatEntered, flatUndone, Flattened};
 
-// As `digest::sequence_identifier`.
+// As `sequence_identifier::sequence_identifier`.
 #[no_mangle]
 pub extern "C" fn fv_sequence_identifier(reference: &[u8], out: &mut [u8], place: u64) -> FvWritten
     ensures { λ r. ⌜ Flattened flatWritten (λ w. Identifies (now (reference .entry)) (now (out .entry)) place w (now (out .exit))) r ⌝ }
 {
-    flat_written(digest::sequence_identifier(reference, out, place))
+    flat_written(sequence_identifier::sequence_identifier(reference, out, place))
 }
 
-// As `running::begin`.
+// As `running_digest::begin`.
 #[no_mangle]
 pub extern "C" fn fv_running_begin() -> Running
     ensures { λ r. ⌜ r ≡ begun ⌝ }
 {
-    running::begin()
+    running_digest::begin()
 }
 
-// As `running::feed`.
+// As `running_digest::feed`.
 #[no_mangle]
 pub extern "C" fn fv_running_feed(state: &mut Running, part: &[u8]) -> FvOutcome
     ensures { λ r. ⌜ Flattened flatOutcome (λ a. Feeds (now (state .entry)) (now (part .entry)) a (now (state .exit))) r ⌝ }
 {
-    flat_outcome(running::feed(state, part))
+    flat_outcome(running_digest::feed(state, part))
 }
 
-// As `running::finish`.
+// As `running_digest::finish`.
 #[no_mangle]
 pub extern "C" fn fv_running_finish(state: &Running, out: &mut [u8], place: u64) -> FvWritten
     ensures { λ r. ⌜ Flattened flatWritten (λ w. Finishes (now (state .entry)) (now (out .entry)) place w (now (out .exit))) r ⌝ }
 {
-    flat_written(running::finish(state, out, place))
+    flat_written(running_digest::finish(state, out, place))
 }
 
-// As `forming::normal_form`.
+// As `normal_form_calls::normal_form`.
 #[no_mangle]
 pub extern "C" fn fv_normal_form(
     reference: &[u8],
@@ -74,10 +74,10 @@ pub extern "C" fn fv_normal_form(
 ) -> FvForm
     ensures { λ r. ⌜ Flattened flatForm (λ a. Normalises (now (reference .entry)) start end (now (replacement .entry)) (now (out .entry)) place a (now (out .exit))) r ⌝ }
 {
-    flat_form(forming::normal_form(reference, start, end, replacement, out, place))
+    flat_form(normal_form_calls::normal_form(reference, start, end, replacement, out, place))
 }
 
-// As `locations::location_text`.
+// As `location_identifier::location_text`.
 #[no_mangle]
 pub extern "C" fn fv_location_text(
     residues: u64,
@@ -87,12 +87,12 @@ pub extern "C" fn fv_location_text(
     out: &mut [u8],
     place: u64,
 ) -> FvWritten
-    ensures { λ r. ⌜ Flattened flatWritten (λ w. SaysLocation residues start end (now (digest .entry)) (now (out .entry)) place w (now (out .exit))) r ⌝ }
+    ensures { λ r. ⌜ Flattened flatWritten (λ w. WritesLocation residues start end (now (digest .entry)) (now (out .entry)) place w (now (out .exit))) r ⌝ }
 {
-    flat_written(locations::location_text(residues, start, end, digest, out, place))
+    flat_written(location_identifier::location_text(residues, start, end, digest, out, place))
 }
 
-// As `locations::location_identifier`.
+// As `location_identifier::location_identifier`.
 #[no_mangle]
 pub extern "C" fn fv_location_identifier(
     residues: u64,
@@ -104,10 +104,10 @@ pub extern "C" fn fv_location_identifier(
 ) -> FvWritten
     ensures { λ r. ⌜ Flattened flatWritten (λ w. IdentifiesLocation residues start end (now (digest .entry)) (now (out .entry)) place w (now (out .exit))) r ⌝ }
 {
-    flat_written(locations::location_identifier(residues, start, end, digest, out, place))
+    flat_written(location_identifier::location_identifier(residues, start, end, digest, out, place))
 }
 
-// As `identify::allele_text`.
+// As `allele_identifier::allele_text`.
 #[no_mangle]
 pub extern "C" fn fv_allele_text(
     reference: &[u8],
@@ -118,12 +118,20 @@ pub extern "C" fn fv_allele_text(
     out: &mut [u8],
     place: u64,
 ) -> FvWritten
-    ensures { λ r. ⌜ Flattened flatWritten (λ w. SaysAllele (now (reference .entry)) start end (now (replacement .entry)) (now (digest .entry)) (now (out .entry)) place w (now (out .exit))) r ⌝ }
+    ensures { λ r. ⌜ Flattened flatWritten (λ w. WritesAllele (now (reference .entry)) start end (now (replacement .entry)) (now (digest .entry)) (now (out .entry)) place w (now (out .exit))) r ⌝ }
 {
-    flat_written(identify::allele_text(reference, start, end, replacement, digest, out, place))
+    flat_written(allele_identifier::allele_text(
+        reference,
+        start,
+        end,
+        replacement,
+        digest,
+        out,
+        place,
+    ))
 }
 
-// As `identify::allele_identifier`.
+// As `allele_identifier::allele_identifier`.
 #[no_mangle]
 pub extern "C" fn fv_allele_identifier(
     reference: &[u8],
@@ -136,7 +144,7 @@ pub extern "C" fn fv_allele_identifier(
 ) -> FvWritten
     ensures { λ r. ⌜ Flattened flatWritten (λ w. IdentifiesAllele (now (reference .entry)) start end (now (replacement .entry)) (now (digest .entry)) (now (out .entry)) place w (now (out .exit))) r ⌝ }
 {
-    flat_written(identify::allele_identifier(
+    flat_written(allele_identifier::allele_identifier(
         reference,
         start,
         end,
@@ -147,20 +155,20 @@ pub extern "C" fn fv_allele_identifier(
     ))
 }
 
-// As `reading::read_location`.
+// As `text_reader::read_location`.
 #[no_mangle]
 pub extern "C" fn fv_read_location(text: &[u8]) -> FvLocation
     ensures { λ r. ⌜ Flattened flatLocation (ReadsLocation (now (text .entry))) r ⌝ }
 {
-    flat_location(reading::read_location(text))
+    flat_location(text_reader::read_location(text))
 }
 
-// As `reading::read_allele`.
+// As `text_reader::read_allele`.
 #[no_mangle]
 pub extern "C" fn fv_read_allele(text: &[u8]) -> FvAllele
     ensures { λ r. ⌜ Flattened flatAllele (ReadsAllele (now (text .entry))) r ⌝ }
 {
-    flat_allele(reading::read_allele(text))
+    flat_allele(text_reader::read_allele(text))
 }
 
 // As `blank::blank`.
@@ -178,7 +186,7 @@ pub extern "C" fn fv_blank(
     flat_outcome(blank::blank(image, residues, digest, records, journal, pool))
 }
 
-// As `entering::entry`.
+// As `entry::entry`.
 #[no_mangle]
 pub extern "C" fn fv_entry(
     image: &mut [u8],
@@ -190,7 +198,7 @@ pub extern "C" fn fv_entry(
 ) -> FvEntered
     ensures { λ r. ⌜ Flattened flatEntered (λ a. Enters (now (image .entry)) (now (digest .entry)) (now (reference .entry)) start end (now (replacement .entry)) a (now (image .exit))) r ⌝ }
 {
-    flat_entered(entering::entry(image, digest, reference, start, end, replacement))
+    flat_entered(entry::entry(image, digest, reference, start, end, replacement))
 }
 
 // As `register::withdraw`.

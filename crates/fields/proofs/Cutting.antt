@@ -33,7 +33,8 @@ module _ (mark : ℕ) (s : List ℕ) where
   next-le i l = omega (arith, firstOutside-le (other mark) (drop i s), length-drop i s)
 
 -- a first piece and the rest, or one piece
-pub parted-cut : (mark : ℕ) (s : List ℕ) → firstOf mark s < length s → parted mark s ≡ take (firstOf mark s) s ∷ parted mark (drop (suc (firstOf mark s)) s)
+pub parted-cut : (mark : ℕ) (s : List ℕ) → firstOf mark s < length s
+    → parted mark s ≡ take (firstOf mark s) s ∷ parted mark (drop (suc (firstOf mark s)) s)
 unfolding parted firstOutside
 parted-cut mark [] l = absurd (not-suc-le-zero l)
 parted-cut mark (c ∷ s) l =
@@ -51,7 +52,8 @@ parted-one mark (c ∷ s) l =
 
 -- the same of what stands from a place on
 module _ (mark : ℕ) (s : List ℕ) (i : ℕ) where
-  pub parted-next : nextOf mark s i < length s → parted mark (drop i s) ≡ part s i (nextOf mark s i) ∷ parted mark (drop (nextOf mark s i + 1) s)
+  pub parted-next : nextOf mark s i < length s
+      → parted mark (drop i s) ≡ part s i (nextOf mark s i) ∷ parted mark (drop (nextOf mark s i + 1) s)
   parted-next l =
       parted-cut mark (drop i s) (omega (arith, length-drop i s))
       ∙ rw (add-sub-cancel-left i (firstOf mark (drop i s)), drop-drop, add-one, add-suc)

@@ -7,10 +7,10 @@ use mathlib.Core.List.{List}
 use lib.Dec.{eqb}
 use borrow.Author.Tests.{eqb-true, eqb-false}
 use Rattle.stretch.proofs.Cases.{by-cases}
-use Rattle.normal.specs.Form.{Normal}
+use Rattle.normal_form.specs.Form.{Normal}
 use Rattle.image.specs.Fields.{issued, statusOf, active, inactive}
 use Rattle.lookup.specs.Lookup.{holds, lowestHolding}
-use Rattle.numbering.specs.Found.{_under_, new, again, known, found}
+use Rattle.form_entry.specs.Found.{_under_, new, again, known, found}
 use Rattle.history.specs.Demand.{Live}
 use Rattle.lookup.proofs.Lowest.{lowest-passes, lowest-none}
 use Rattle.history.proofs.Proper.{Has, holds-told, holds-met}
@@ -48,9 +48,9 @@ module _ (b : List ℕ) (f : Normal) where
         let apart : _≡_ {A = ℕ} 0 1 = cc (holds-met b status f i (m .status-is) (m .has), fails) in
         omega arith
 
-  pub finding : Finding b f
+  pub found-finding : Finding b f
   unfolding found
-  finding =
+  found-finding =
       by-cases (eqb (lowestHolding b active f) 0)
       (λ e.
       by-cases (eqb (lowestHolding b inactive f) 0)

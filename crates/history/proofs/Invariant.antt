@@ -2,7 +2,7 @@
 use Prim.Native.Nat.{ℕ}
 use mathlib.Core.Path.{_≡_, refl, sym, subst}
 use mathlib.Core.List.{List, [], _∷_}
-use Rattle.numbering.specs.Found.{new, again, known}
+use Rattle.form_entry.specs.Found.{new, again, known}
 use Rattle.history.specs.Events.{Event, entry, withdrawal, undo, seal, refusal}
 use Rattle.history.specs.Events.{added, removed, unsealed, sealed, meant}
 use Rattle.history.proofs.View.{View, KeepsOthers, Moves}

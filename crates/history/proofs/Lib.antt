@@ -7,7 +7,7 @@ pub mod Standing
 pub mod Replay
 -- what holds between a history and what a register shows, and demand 3 from it
 pub mod Invariant
-pub mod Told
+pub mod ViewDemand
 -- what an image shows, and what an entry finds in it
 pub mod Proper
 pub mod Found
@@ -16,6 +16,6 @@ pub mod Shows
 pub mod Passed
 pub mod Steps
 -- demand 3 of an image, along every run, and document 01's example
-pub mod Demanded
+pub mod ImageDemand
 pub mod Reached
 pub mod Played

@@ -4,7 +4,7 @@ use mathlib.Core.Path.{_≡_, sym, _∙_, subst}
 use mathlib.Core.Logic.{inl, inr, ⊎-elim}
 use mathlib.Core.List.{List, _∷_}
 use borrow.Author.Tests.{eq-eqb, ne-eqb}
-use Rattle.numbering.specs.Found.{Way, new}
+use Rattle.form_entry.specs.Found.{Way, new}
 use Rattle.history.specs.Events.{Event, entry, withdrawal, undo, seal, refusal, Occurs, meant}
 use Rattle.history.proofs.View.{View, KeepsOthers, New, Again}
 use Rattle.history.proofs.Equal.{by-equal}

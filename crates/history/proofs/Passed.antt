@@ -9,12 +9,12 @@ use borrow.Author.Tests.{not-false, eqb-true}
 use Rattle.stretch.specs.Same.{same}
 use Rattle.refusal.specs.Verdict.{accepted, verdict}
 use Rattle.refusal.proofs.Verdict.{none-holds, verdict-fewer, verdict-later}
-use Rattle.normal.specs.Form.{altered, normal}
-use Rattle.forming.specs.Calls.{formGrounds}
+use Rattle.normal_form.specs.Form.{altered, normal}
+use Rattle.normal_form_calls.specs.Calls.{formGrounds}
 use Rattle.image.specs.Fields.{referenceLength}
-use Rattle.numbering.specs.Found.{found}
-use Rattle.numbering.specs.Calls.{roomGrounds}
-use Rattle.entering.specs.Calls.{imageGrounds, unchangedAllele, changeGrounds, entryGrounds}
+use Rattle.form_entry.specs.Found.{found}
+use Rattle.form_entry.specs.Calls.{roomGrounds}
+use Rattle.entry.specs.Calls.{imageGrounds, unchangedAllele, changeGrounds, entryGrounds}
 
 -- an entry: an image of this reference, and a changed allele that passes the normal form's tests, with room for it
 pub record Enterable (b r : List ℕ) (start end : ℕ) (x : List ℕ) : Type 0 where
@@ -23,10 +23,10 @@ pub record Enterable (b r : List ℕ) (start end : ℕ) (x : List ℕ) : Type 0 
   pub changed : same r (altered r start end x) ≡ false
   pub room : verdict (roomGrounds b (normal r start end x) (found b (normal r start end x))) ≡ accepted
 
-pub enterable : (b digest r : List ℕ) (start end : ℕ) (x : List ℕ)
+pub accepted-enterable : (b digest r : List ℕ) (start end : ℕ) (x : List ℕ)
     → verdict (entryGrounds b digest r start end x) ≡ accepted → Enterable b r start end x
 unfolding entryGrounds imageGrounds changeGrounds
-enterable b digest r start end x v =
+accepted-enterable b digest r start end x v =
     let of-image = imageGrounds b digest r in
     let of-form = formGrounds r start end x in
     let unchanged = unchangedAllele r start end x ∷ [] in

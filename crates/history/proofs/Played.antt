@@ -6,27 +6,27 @@ use Rattle.stretch.specs.Over.{over}
 use Rattle.stretch.specs.Same.{same}
 use Rattle.refusal.specs.declared.Outcome.the-variants.{Accepted}
 use Rattle.stretch.specs.Class.{every, firstOutside}
-use Rattle.letters.specs.Letters.{letter, residue, base64url, digestTextGrounds}
-use Rattle.normal.specs.Form.{altered, shorter, within, ahead, behind, kindIn, kindOf, changedForm, normal}
-use Rattle.forming.specs.Calls.{formGrounds}
+use Rattle.alphabets.specs.Alphabets.{letter, residue, base64url, digestTextGrounds}
+use Rattle.normal_form.specs.Form.{altered, shorter, within, ahead, behind, kindIn, kindOf, changedForm, normal}
+use Rattle.normal_form_calls.specs.Calls.{formGrounds}
 use Rattle.image.specs.Numbers.{little, bytes, number, numbers, put}
 use Rattle.image.specs.Fields.{recordSize, journalPlace, poolPlace, headerOf, recordPlace, recordOf, replacementOf}
 use Rattle.image.specs.Formed.{laidOut, countsWithin, withinLimits, headerFormed, lengths, recordGood, entryGood}
 use Rattle.image.specs.Formed.{wellFormed}
-use Rattle.numbering.specs.declared.Entered.the-variants.{New, Again, Known}
+use Rattle.form_entry.specs.declared.Entered.the-variants.{New, Again, Known}
 use Rattle.register.specs.declared.Undone.the-variants.{Number}
 use Rattle.lookup.specs.Lookup.{holds, lowest, lowestHolding}
-use Rattle.numbering.specs.Found.{found}
+use Rattle.form_entry.specs.Found.{found}
 use Rattle.changes.specs.Changes.{blanked, journalled, marked, withdrawn, reentered, recorded, pooled, counted}
 use Rattle.changes.specs.Changes.{numbered, latest, undone, sealed}
-use Rattle.entering.specs.Calls.{imageGrounds, changeGrounds, entryGrounds, Enters}
+use Rattle.entry.specs.Calls.{imageGrounds, changeGrounds, entryGrounds, Enters}
 use Rattle.blank.specs.Calls.{blankGrounds}
 use Rattle.register.specs.Calls.{withdrawalGrounds, Withdraws, undoGrounds, Undoes, Seals}
 use Rattle.history.specs.Runs.{Run, no-calls, _then_, enters, withdraws, undoes, seals}
 use Rattle.history.specs.Example.{Played, reference, digest, events}
 use Rattle.history.specs.Example.{blank, one, oneUndone, two, oneAgain, oneWithdrawn, closed}
 
-pub played : Played
+pub worked-register : Played
 unfolding below lcp lcs over same
     residue letter base64url every firstOutside digestTextGrounds
     altered shorter within ahead behind kindIn kindOf changedForm normal formGrounds
@@ -38,7 +38,7 @@ unfolding below lcp lcs over same
     blankGrounds imageGrounds changeGrounds entryGrounds Enters
     withdrawalGrounds Withdraws undoGrounds Undoes Seals
     blank one oneUndone two oneAgain oneWithdrawn closed
-played =
+worked-register =
     record {
       first = record { answers = refl; leaves = refl };
       case-1 = record { answers = refl; leaves = refl };
@@ -52,14 +52,14 @@ played =
     }
 
 -- so each kind of call is accepted in some run from a blank image
-pub played-run : Run reference blank events closed
-played-run =
+pub worked-run : Run reference blank events closed
+worked-run =
     no-calls
-    then enters digest 4 4 _ (New 1) (played .case-1)
-    then undoes (Number 1) (played .undone-1)
-    then enters digest 2 3 _ (New 2) (played .case-4)
-    then enters digest 1 2 _ (Again 1) (played .case-2)
-    then enters digest 3 5 _ _ (played .case-6)
-    then enters digest 1 5 _ (Known 2) (played .case-5)
-    then withdraws 1 Accepted (played .withdrawn-1)
-    then seals Accepted (played .sealed-all)
+    then enters digest 4 4 _ (New 1) (worked-register .case-1)
+    then undoes (Number 1) (worked-register .undone-1)
+    then enters digest 2 3 _ (New 2) (worked-register .case-4)
+    then enters digest 1 2 _ (Again 1) (worked-register .case-2)
+    then enters digest 3 5 _ _ (worked-register .case-6)
+    then enters digest 1 5 _ (Known 2) (worked-register .case-5)
+    then withdraws 1 Accepted (worked-register .withdrawn-1)
+    then seals Accepted (worked-register .sealed-all)

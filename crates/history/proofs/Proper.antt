@@ -6,10 +6,10 @@ use mathlib.Core.List.{List}
 use borrow.Author.Tests.{eq-eqb, eqb-true}
 use Rattle.stretch.specs.Same.{same}
 use Rattle.stretch.proofs.Same.{same-refl, same-eq}
-use Rattle.normal.specs.Form.{Normal, altered, changedForm, normal}
-use Rattle.normal.proofs.Laws.{yields, normal-changed}
+use Rattle.normal_form.specs.Form.{Normal, altered, changedForm, normal}
+use Rattle.normal_form.proofs.Laws.{altered-normal, normal-changed}
 use Rattle.image.specs.Fields.{startOf, endOf, statusOf, replacementOf}
-use Rattle.image.proofs.Tests.{both, last}
+use Rattle.image.proofs.Tests.{cond-both, cond-last}
 use Rattle.lookup.specs.Lookup.{holds}
 use Rattle.history.specs.Demand.{sequenceOf}
 
@@ -28,14 +28,14 @@ module _ (b : List ℕ) (status : ℕ) (f : Normal) (i : ℕ) where
   pub holds-told : holds b status f i ≡ true → (statusOf b i ≡ status) × Has b i f
   unfolding holds
   holds-told h =
-      let status-is = both _ _ h in
-      let start = both _ _ (status-is .1) in
-      let end = both _ _ (start .1) in
+      let status-is = cond-both _ _ h in
+      let start = cond-both _ _ (status-is .1) in
+      let end = cond-both _ _ (start .1) in
       let has : Has b i f
       = record {
         start = eqb-true _ _ (start .0);
         end = eqb-true _ _ (end .0);
-        replacement = same-eq _ _ (last _ (end .1));
+        replacement = same-eq _ _ (cond-last _ (end .1));
       } in
       (eqb-true _ _ (status-is .0), has)
 
@@ -47,7 +47,7 @@ module _ (b : List ℕ) (status : ℕ) (f : Normal) (i : ℕ) where
 module _ (r b : List ℕ) (i start end : ℕ) (x : List ℕ) where
   -- a record with an allele's normal form stands for the allele's altered sequence
   pub has-stands : Has b i (normal r start end x) → sequenceOf r b i ≡ altered r start end x
-  has-stands p = (λ k. altered r (p .start k) (p .end k) (p .replacement k)) ∙ yields r start end x
+  has-stands p = (λ k. altered r (p .start k) (p .end k) (p .replacement k)) ∙ altered-normal r start end x
 
   -- and is proper where the allele is changed
   pub has-proper : same r (altered r start end x) ≡ false → Has b i (normal r start end x) → Proper r b i

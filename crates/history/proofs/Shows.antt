@@ -5,7 +5,7 @@ use native.Mathlib.Nat.{eq-or-lt-of-le}
 use mathlib.Core.Path.{_≡_, _∙_, sym, subst}
 use mathlib.Core.Logic.{⊎-elim}
 use mathlib.Core.List.{List}
-use Rattle.normal.specs.Form.{Normal, altered, changedForm}
+use Rattle.normal_form.specs.Form.{Normal, altered, changedForm}
 use Rattle.image.specs.Fields.{issued, journalCount, statusOf, entryOf}
 use Rattle.history.specs.Demand.{Live, sequenceOf}
 use Rattle.history.proofs.Proper.{Has, Proper}

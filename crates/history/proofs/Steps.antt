@@ -10,16 +10,17 @@ use borrow.Author.Tests.{leb-false, ltb-false}
 use Rattle.refusal.specs.Verdict.{Ground, Verdict, accepted, refused, verdict}
 use Rattle.refusal.specs.declared.Refusal.{Refusal}
 use Rattle.refusal.proofs.Verdict.{none-holds, verdict-later}
-use Rattle.letters.specs.Letters.{residue, foreign, foreignNormal}
+use Rattle.alphabets.specs.Alphabets.{residue, foreign, foreignNormal}
 use Rattle.stretch.specs.Class.{every}
-use Rattle.letters.proofs.Foreign.{foreign-le, foreign-none}
-use Rattle.normal.specs.Form.{Allele, Normal, altered, normal}
-use Rattle.normal.proofs.Laws.{normal-ordered, normal-inside}
-use Rattle.forming.specs.Calls.{givenGrounds, formGrounds}
-use Rattle.forming.proofs.Answers.{clean-allele}
-use Rattle.image.specs.Fields.{issued, recordCapacity, journalCount, journalCapacity, poolUsed, poolCapacity, referenceLength, statusOf, entryOf, active, inactive}
+use Rattle.alphabets.proofs.Foreign.{foreign-le, foreign-none}
+use Rattle.normal_form.specs.Form.{Allele, Normal, altered, normal}
+use Rattle.normal_form.proofs.Laws.{normal-ordered, normal-inside}
+use Rattle.normal_form_calls.specs.Calls.{givenGrounds, formGrounds}
+use Rattle.normal_form_calls.proofs.Answers.{clean-allele}
+use Rattle.image.specs.Fields.{issued, recordCapacity, journalCount, journalCapacity, poolUsed, poolCapacity}
+use Rattle.image.specs.Fields.{referenceLength, statusOf, entryOf, active, inactive}
 use Rattle.image.specs.Formed.{wellFormed}
-use Rattle.image.proofs.WellFormed.{FormedEntry, Formed, formed}
+use Rattle.image.proofs.WellFormed.{FormedEntry, Formed, wellFormed-formed}
 use Rattle.image.proofs.Lengths.{formed-inside}
 use Rattle.changes.specs.Changes.{withdrawn, reentered, numbered, undone, latest, sealed}
 use Rattle.refusal.specs.Keeps.{Keeps}
@@ -29,19 +30,20 @@ use Rattle.effects.proofs.Marked.{withdrawn-seen, reentered-seen, undone-seen, 
 use Rattle.effects.proofs.Numbered.{numbered-seen}
 use Rattle.effects.proofs.StayFormed.{journalled-formed, taken-back-formed, closed-formed}
 use Rattle.effects.proofs.NumberedFormed.{issues-formed}
-use Rattle.numbering.specs.Found.{_under_, new, again, known, found, answerOf, entered}
-use Rattle.numbering.specs.Calls.{roomGrounds}
-use Rattle.entering.specs.Calls.{Enters}
+use Rattle.form_entry.specs.Found.{_under_, new, again, known, found, answerOf, entered}
+use Rattle.form_entry.specs.Calls.{roomGrounds}
+use Rattle.entry.specs.Calls.{Enters}
 use Rattle.register.specs.Calls.{Withdraws, Undoes, Seals}
 use Rattle.history.specs.Events.{Event, entry, withdrawal, undo, seal, refusal}
 use Rattle.history.specs.Runs.{Call, enters, withdraws, undoes, seals, entryEvent, undoEvent, outcomeEvent}
 use Rattle.history.specs.Demand.{Live, sequenceOf}
 use Rattle.history.proofs.View.{Moves}
 use Rattle.history.proofs.Proper.{Proper, has-stands, has-proper, proper-has}
-use Rattle.history.proofs.Found.{Match, Unmatched, Finding, active-as, withdrawn-as, nowhere, finding}
-use Rattle.history.proofs.Shows.{shows, live-back, stays-proper, restated-keeps, journalled-changes, closed-sealed, issues-cases, issues-changes, issues-has}
-use Rattle.register.proofs.Accepted.{Withdrawable, withdrawable, undoable}
-use Rattle.history.proofs.Passed.{Enterable, enterable}
+use Rattle.history.proofs.Found.{Match, Unmatched, Finding, active-as, withdrawn-as, nowhere, found-finding}
+use Rattle.history.proofs.Shows.{shows, live-back, stays-proper, restated-keeps, journalled-changes}
+use Rattle.history.proofs.Shows.{closed-sealed, issues-cases, issues-changes, issues-has}
+use Rattle.register.proofs.Accepted.{Withdrawable, accepted-withdrawable, accepted-undoable}
+use Rattle.history.proofs.Passed.{Enterable, accepted-enterable}
 
 zero-or-one : (s : ℕ) → s ≤ 1 → (s ≡ 0) ⊎ (s ≡ 1)
 zero-or-one zero h = inl refl
@@ -58,16 +60,16 @@ pub record Step (r b : List ℕ) (e : Event) (left : List ℕ) : Type 1 where
 
 module _ (r b : List ℕ) (state : State r b) where
   image : Formed b
-  image = formed b (state .formed)
+  image = wellFormed-formed b (state .formed)
 
   inside : Inside b
   inside = formed-inside b image
 
   -- a change that keeps the numbers
   stays-state : (c : List ℕ) → wellFormed c ≡ true → Stays b c → issued c ≡ issued b → State r c
-  stays-state c formed s same =
+  stays-state c wellFormed-formed s same =
       record {
-        formed = formed;
+        formed = wellFormed-formed;
         proper = λ i l. let m = live-back b c same i l in stays-proper r b c s i m (state .proper i m);
       }
 
@@ -76,7 +78,7 @@ module _ (r b : List ℕ) (state : State r b) where
   journalled-state c i s j small l room =
       let now = j .restated in
       let formed = journalled-formed b c (state .formed) i s j small (l .from) (l .to) room in
-      stays-state c formed (now .stays) (now .numbers)
+      stays-state c wellFormed-formed (now .stays) (now .numbers)
 
   withdrawn-step : (i : ℕ) → Withdrawable b i → Step r b (withdrawal i) (withdrawn b i)
   withdrawn-step i w =
@@ -107,7 +109,7 @@ module _ (r b : List ℕ) (state : State r b) where
       let now = s .restated in
       let formed = taken-back-formed b c (state .formed) (latest b) status s (omega arith) in
       record {
-        state = stays-state c formed (now .stays) (now .numbers);
+        state = stays-state c wellFormed-formed (now .stays) (now .numbers);
         moves = record {
           count = omega (arith, s .count);
           last = taken-last c (s .count);
@@ -246,7 +248,7 @@ module _ (r b : List ℕ) (state : State r b) where
     entry-step (withdrawn-as i e m) = rw e (again-step i e m)
     entry-step (nowhere e none-active none-inactive) = rw e (new-step e none-active none-inactive)
 
-  -- an accepted call makes its step, and a refused one leaves all as it was
+  -- an accepted call makes its call-step, and a refused one leaves all as it was
   by-verdict : {A : Type 0} {refuses : Refusal → A} {v : Verdict} {said answer : A} {changed left : List ℕ}
       (event : A → Event) → ((why : Refusal) → event (refuses why) ≡ refusal)
       → Keeps refuses v said b changed answer left
@@ -256,12 +258,13 @@ module _ (r b : List ℕ) (state : State r b) where
   by-verdict {v = refused why} event refuses p go =
       rw (p .leaves, p .answers, refuses why) (record { state = state; moves = refl })
 
-  pub step : {e : Event} {left : List ℕ} → Call r b e left → Step r b e left
+  pub call-step : {e : Event} {left : List ℕ} → Call r b e left → Step r b e left
   unfolding Enters Withdraws Undoes Seals
-  step (enters digest start end x answer p) =
+  call-step (enters digest start end x answer p) =
       by-verdict (entryEvent (altered r start end x)) (λ why. refl) p
-      (λ v. entry-step start end x (enterable b digest r start end x v) (finding b (normal r start end x)))
-  step (withdraws i answer p) =
-      by-verdict (outcomeEvent (withdrawal i)) (λ why. refl) p (λ v. withdrawn-step i (withdrawable b i v))
-  step (undoes answer p) = by-verdict undoEvent (λ why. refl) p (λ v. undone-step (undoable b v .some))
-  step (seals answer p) = by-verdict (outcomeEvent seal) (λ why. refl) p (λ v. sealed-step)
+      (λ v. entry-step start end x (accepted-enterable b digest r start end x v)
+      (found-finding b (normal r start end x)))
+  call-step (withdraws i answer p) =
+      by-verdict (outcomeEvent (withdrawal i)) (λ why. refl) p (λ v. withdrawn-step i (accepted-withdrawable b i v))
+  call-step (undoes answer p) = by-verdict undoEvent (λ why. refl) p (λ v. undone-step (accepted-undoable b v .some))
+  call-step (seals answer p) = by-verdict (outcomeEvent seal) (λ why. refl) p (λ v. sealed-step)

@@ -2,7 +2,7 @@
 use Prim.Native.Nat.{ℕ, suc, _-_, _<_}
 use mathlib.Core.Path.{_≡_}
 use mathlib.Core.List.{List}
-use Rattle.numbering.specs.Found.{new, again, known}
+use Rattle.form_entry.specs.Found.{new, again, known}
 use Rattle.history.specs.Events.{Event, entry, withdrawal, undo, seal, refusal}
 
 pub record View : Type 1 where

@@ -5,9 +5,9 @@ use mathlib.Core.Bool.{true}
 use mathlib.Core.Logic.{_↔_}
 use mathlib.Core.List.{List, _∷_}
 use lib.ListN.{length}
-use Rattle.normal.specs.Form.{altered}
+use Rattle.normal_form.specs.Form.{altered}
 use Rattle.image.specs.Fields.{issued, journalCount, startOf, endOf, statusOf, replacementOf, active}
-use Rattle.numbering.specs.Found.{Way, new}
+use Rattle.form_entry.specs.Found.{Way, new}
 use Rattle.history.specs.Events.{Event, entry, Occurs, Change, numberOf, unsealed, standing, meant, replayed}
 
 -- a number stands for something: it is issued

@@ -7,7 +7,7 @@ use mathlib.Core.List.{List, [], _∷_, _++_}
 use lib.Dec.{eqb}
 use lib.ListN.{drop}
 use Rattle.stretch.specs.Same.{same}
-use Rattle.numbering.specs.Found.{Way, new, again, known}
+use Rattle.form_entry.specs.Found.{Way, new, again, known}
 
 -- an accepted entry, with its answer, its number and the altered sequence that it made; an accepted withdrawal
 -- of a number; an accepted undo, with the number answered; an accepted seal; a refused call

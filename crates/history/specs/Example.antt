@@ -6,13 +6,13 @@ use mathlib.Core.List.{List, [], _∷_}
 use lib.ListN.{replicate}
 use Rattle.stretch.specs.Ascii.{ascii}
 use Rattle.refusal.specs.declared.Outcome.the-variants.{Accepted}
-use Rattle.normal.specs.Form.{altered, normal}
-use Rattle.numbering.specs.declared.Entered.{Entered}
-use Rattle.numbering.specs.declared.Entered.the-variants.{New, Again, Known, Refused}
-use Rattle.numbering.specs.Found.{new, again, known}
+use Rattle.normal_form.specs.Form.{altered, normal}
+use Rattle.form_entry.specs.declared.Entered.{Entered}
+use Rattle.form_entry.specs.declared.Entered.the-variants.{New, Again, Known, Refused}
+use Rattle.form_entry.specs.Found.{new, again, known}
 use Rattle.register.specs.declared.Undone.the-variants.{Number}
 use Rattle.changes.specs.Changes.{blanked, numbered, reentered, withdrawn, undone, sealed}
-use Rattle.entering.specs.Calls.{Enters}
+use Rattle.entry.specs.Calls.{Enters}
 use Rattle.blank.specs.Calls.{Blanks}
 use Rattle.register.specs.Calls.{Withdraws, Undoes, Seals}
 use Rattle.history.specs.Events.{Event, entry, undo, withdrawal, seal, refusal}

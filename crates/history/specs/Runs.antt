@@ -3,13 +3,13 @@ use Prim.Native.Nat.{ℕ}
 use mathlib.Core.List.{List, [], _∷_}
 use Rattle.refusal.specs.declared.Outcome.{Outcome}
 use Rattle.refusal.specs.declared.Outcome.the-variants.{Accepted, Refused}
-use Rattle.normal.specs.Form.{altered}
-use Rattle.numbering.specs.declared.Entered.{Entered}
-use Rattle.numbering.specs.declared.Entered.the-variants.{New, Again, Known, Refused as Unentered}
-use Rattle.numbering.specs.Found.{new, again, known}
+use Rattle.normal_form.specs.Form.{altered}
+use Rattle.form_entry.specs.declared.Entered.{Entered}
+use Rattle.form_entry.specs.declared.Entered.the-variants.{New, Again, Known, Refused as Unentered}
+use Rattle.form_entry.specs.Found.{new, again, known}
 use Rattle.register.specs.declared.Undone.{Undone}
 use Rattle.register.specs.declared.Undone.the-variants.{Number, Refused as NotUndone}
-use Rattle.entering.specs.Calls.{Enters}
+use Rattle.entry.specs.Calls.{Enters}
 use Rattle.register.specs.Calls.{Withdraws, Undoes, Seals}
 use Rattle.history.specs.Events.{Event, entry, withdrawal, undo, seal, refusal}
 

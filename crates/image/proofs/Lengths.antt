@@ -1,4 +1,5 @@
--- The records of a well-formed image share its pool: each replacement behind the one before, all of them within the used part.
+-- The records of a well-formed image share its pool: each replacement after the one before, all of them within the used
+-- part.
 use Prim.Native.Nat.{ℕ, zero, suc, _+_, _<_, _≤_}
 use native.Mathlib.Nat.{le-refl, le-of-suc-le-suc, not-suc-le-zero, eq-or-lt-of-le}
 use native.Mathlib.Omega.{arith}
@@ -22,7 +23,8 @@ lengths-grow b (suc k) (suc n) h =
     (eq-or-lt-of-le h)
 
 -- images with the same lengths
-pub lengths-same : (b c : List ℕ) (n : ℕ) → ((k : ℕ) → k < n → lengthOf c (suc k) ≡ lengthOf b (suc k)) → lengths c n ≡ lengths b n
+pub lengths-same : (b c : List ℕ) (n : ℕ) → ((k : ℕ) → k < n → lengthOf c (suc k) ≡ lengthOf b (suc k))
+    → lengths c n ≡ lengths b n
 unfolding lengths
 lengths-same b c zero same = refl
 lengths-same b c (suc n) same = rw (lengths-same b c n (λ k l. same k (omega arith)), same n (omega arith))
@@ -37,5 +39,6 @@ module _ (b : List ℕ) (f : Formed b) where
   unfolding replacementOf
   formed-length i h g =
       let from = poolOffset b + offsetOf b i in
-      let room : from + lengthOf b i ≤ length b = omega (arith, formed-inside i h g, f .header .used, f .header .whole) in
+      let room : from + lengthOf b i ≤ length b =
+      omega (arith, formed-inside i h g, f .header .used, f .header .whole) in
       length-part b from (from + lengthOf b i) (omega arith) room ∙ omega arith

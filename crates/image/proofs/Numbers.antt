@@ -15,7 +15,8 @@ part-four : (b : List ℕ) (at : ℕ) → at + 4 ≤ length b
     → part b at (at + 4) ≡ getD b at 0 ∷ getD b (at + 1) 0 ∷ getD b (at + 2) 0 ∷ getD b (at + 3) 0 ∷ []
 part-four b at h =
     let on : (k : ℕ) → k < 4 → drop (at + k) b ≡ getD b (at + k) 0 ∷ drop (at + (k + 1)) b
-    = λ k l. let e : suc (at + k) ≡ at + (k + 1) = omega arith in drop-cons b (at + k) 0 (omega arith) ∙ ap (λ (j : ℕ). getD b (at + k) 0 ∷ drop j b) e in
+    = λ k l. let e : suc (at + k) ≡ at + (k + 1) = omega arith in
+    drop-cons b (at + k) 0 (omega arith) ∙ ap (λ (j : ℕ). getD b (at + k) 0 ∷ drop j b) e in
     let first : drop at b ≡ getD b at 0 ∷ drop (at + 1) b = rw (add-zero at) at (on 0 (omega arith)) in
     rw (add-sub-cancel-left at 4, first, on 1 (omega arith), on 2 (omega arith), on 3 (omega arith))
 
@@ -24,9 +25,11 @@ pub number-four : (b : List ℕ) (at : ℕ) → at + 4 ≤ length b
 unfolding number little
 number-four b at h = rw (part-four b at h) (omega arith)
 
--- one byte stored behind a write
-over-store : (l : List ℕ) (at : ℕ) (s : List ℕ) (a : ℕ) → at + length s < length l → set (over l at s) (at + length s) a ≡ over l at (s ++ (a ∷ []))
-over-store l at s a h = set-over (over l at s) (at + length s) a (rw (length-over l at s (omega arith)) h) ∙ over-over l at s (a ∷ []) (omega arith)
+-- one byte stored after a write
+over-store : (l : List ℕ) (at : ℕ) (s : List ℕ) (a : ℕ) → at + length s < length l
+    → set (over l at s) (at + length s) a ≡ over l at (s ++ (a ∷ []))
+over-store l at s a h = set-over (over l at s) (at + length s) a (rw (length-over l at s (omega arith)) h)
+    ∙ over-over l at s (a ∷ []) (omega arith)
 
 set-four : (l : List ℕ) (at a b c d : ℕ) → at + 4 ≤ length l
     → set (set (set (set l at a) (at + 1) b) (at + 2) c) (at + 3) d ≡ over l at (a ∷ b ∷ c ∷ d ∷ [])
@@ -37,7 +40,8 @@ set-four l at a b c d h =
     ∙ over-store l at (a ∷ b ∷ c ∷ []) d (omega arith))
 
 pub put-four : (l : List ℕ) (at v : ℕ) → at + 4 ≤ length l
-    → set (set (set (set l at (v % 256)) (at + 1) (v / 256 % 256)) (at + 2) (v / 256 / 256 % 256)) (at + 3) (v / 256 / 256 / 256 % 256) ≡ put l at v
+    → set (set (set (set l at (v % 256)) (at + 1) (v / 256 % 256)) (at + 2) (v / 256 / 256 % 256)) (at + 3)
+    (v / 256 / 256 / 256 % 256) ≡ put l at v
 unfolding put bytes
 put-four l at v h = set-four l at (v % 256) (v / 256 % 256) (v / 256 / 256 % 256) (v / 256 / 256 / 256 % 256) h
 

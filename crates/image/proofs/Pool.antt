@@ -1,4 +1,4 @@
--- The residues of the pool: the records' parts of it lie one behind the other, so all are tested in one pass.
+-- The residues of the pool: the records' parts of it lie one after the other, so all are tested in one pass.
 use Prim.Native.Nat.{ℕ, zero, suc, _+_, _<_}
 use native.Mathlib.Nat.{add-sub-cancel-left}
 use native.Mathlib.Numerals.{add-one}
@@ -14,16 +14,16 @@ use Rattle.stretch.specs.Below.{below}
 use Rattle.stretch.specs.Part.{part}
 use Rattle.stretch.proofs.Below.{below-at, below-first, below-fails}
 use Rattle.stretch.specs.Class.{every}
-use Rattle.letters.specs.Letters.{residue}
+use Rattle.alphabets.specs.Alphabets.{residue}
 use Rattle.stretch.proofs.Class.{every-append}
 use Rattle.image.specs.Numbers.{number}
 use Rattle.image.specs.Fields.{issued, poolUsed, recordPlace, endInRecord, offsetInRecord, lengthInRecord}
 use Rattle.image.specs.Fields.{statusInRecord, active, poolOffset, referenceLength, startOf, endOf, offsetOf}
 use Rattle.image.specs.Fields.{lengthOf, statusOf, replacementOf}
 use Rattle.image.specs.Formed.{all, lengths, recordGood}
-use Rattle.image.proofs.Tests.{all-append, all-one, both, last}
+use Rattle.image.proofs.Tests.{all-append, all-one, cond-both, cond-last}
 
--- the tests of the record behind the first k, but for its residues
+-- the tests of the record after the first k, but for its residues
 abbrev placedTests : List ℕ → ℕ → List Bool
 placedTests b k =
     leb (startOf b (suc k)) (endOf b (suc k))
@@ -39,19 +39,26 @@ good-placed : (b : List ℕ) (k : ℕ) → recordGood b k ≡ cond (placed b k) 
 unfolding recordGood placed
 good-placed b k =
     let letters = every residue (replacementOf b (suc k)) in
-    all-append (placedTests b k) (letters ∷ []) ∙ ap (λ (t : Bool). cond (all (placedTests b k)) t false) (all-one letters)
+    all-append (placedTests b k) (letters ∷ [])
+    ∙ ap (λ (t : Bool). cond (all (placedTests b k)) t false) (all-one letters)
 
 offset : (b : List ℕ) (k : ℕ) → placed b k ≡ true → offsetOf b (suc k) ≡ lengths b k
 unfolding placed
 offset b k h =
-    let order = both (leb (startOf b (suc k)) (endOf b (suc k))) _ h in
-    let within = both (leb (endOf b (suc k)) (referenceLength b)) _ (order .1) in
-    let status = both (leb (statusOf b (suc k)) active) _ (within .1) in
-    eqb-true _ _ (last _ (status .1))
+    let order = cond-both (leb (startOf b (suc k)) (endOf b (suc k))) _ h in
+    let within = cond-both (leb (endOf b (suc k)) (referenceLength b)) _ (order .1) in
+    let status = cond-both (leb (statusOf b (suc k)) active) _ (within .1) in
+    eqb-true _ _ (cond-last _ (status .1))
 
 part-join : (b : List ℕ) (at m n : ℕ) → part b at (at + (m + n)) ≡ part b at (at + m) ++ part b (at + m) (at + m + n)
 part-join b at m n =
-    rw (add-sub-cancel-left at (m + n), add-sub-cancel-left at m, add-sub-cancel-left (at + m) n, take-add m n (drop at b), drop-drop m at b)
+    rw (
+      add-sub-cancel-left at (m + n),
+      add-sub-cancel-left at m,
+      add-sub-cancel-left (at + m) n,
+      take-add m n (drop at b),
+      drop-drop m at b,
+    )
 
 cond-swap : (p q : Bool) → cond p q false ≡ cond q p false
 cond-swap true true = refl
@@ -59,7 +66,7 @@ cond-swap true false = refl
 cond-swap false true = refl
 cond-swap false false = refl
 
--- the pool's residues behind the first n records
+-- the pool's residues after the first n records
 good-pool : (b : List ℕ) (n : ℕ) → below (placed b) n ≡ true
     → below (recordGood b) n ≡ every residue (part b (poolOffset b) (poolOffset b + lengths b n))
 unfolding below lengths replacementOf every
@@ -97,4 +104,5 @@ module _ (b : List ℕ) where
       → cond (eqb letters (poolUsed b)) (every residue (part b (poolOffset b) (poolOffset b + letters))) false
       ≡ cond (below (recordGood b) (issued b)) (eqb (lengths b (issued b)) (poolUsed b)) false
   records-end letters e h =
-      rw (e, ← good-pool b (issued b) h) (cond-swap (eqb (lengths b (issued b)) (poolUsed b)) (below (recordGood b) (issued b)))
+      rw (e, ← good-pool b (issued b) h)
+      (cond-swap (eqb (lengths b (issued b)) (poolUsed b)) (below (recordGood b) (issued b)))

@@ -19,7 +19,8 @@ pub record Spared (b c : List ℕ) (from to : ℕ) : Type 0 where
 abbrev pub Aside : ℕ → ℕ → ℕ → ℕ → Type 0
 Aside at n from to = (to ≤ at) ⊎ (at + n ≤ from)
 
-pub spared-over : (b : List ℕ) (at : ℕ) (s : List ℕ) → at ≤ length b → (from to : ℕ) → Aside at (length s) from to → Spared b (over b at s) from to
+pub spared-over : (b : List ℕ) (at : ℕ) (s : List ℕ) → at ≤ length b → (from to : ℕ) → Aside at (length s) from to
+    → Spared b (over b at s) from to
 spared-over b at s room from to a =
     record {
       parts = λ i j l o g.
@@ -29,7 +30,8 @@ spared-over b at s room from to a =
           a;
     }
 
-pub spared-put : (b : List ℕ) (at v : ℕ) → at ≤ length b → (from to : ℕ) → Aside at 4 from to → Spared b (put b at v) from to
+pub spared-put : (b : List ℕ) (at v : ℕ) → at ≤ length b → (from to : ℕ) → Aside at 4 from to
+    → Spared b (put b at v) from to
 unfolding put
 spared-put b at v room from to a = spared-over b at (bytes 4 v) room from to (rw (length-bytes 4 v) a)
 
@@ -42,8 +44,10 @@ module _ {b c : List ℕ} {from to : ℕ} (s : Spared b c from to) where
   spared-number i l g = ap little (s .parts i (i + 4) l (omega arith) g)
 
 -- a number beside a write, and beside a number that is put
-pub number-beside : (b : List ℕ) (at : ℕ) (s : List ℕ) → at ≤ length b → (i : ℕ) → Aside at (length s) i (i + 4) → number (over b at s) i ≡ number b i
+pub number-beside : (b : List ℕ) (at : ℕ) (s : List ℕ) → at ≤ length b → (i : ℕ) → Aside at (length s) i (i + 4)
+    → number (over b at s) i ≡ number b i
 number-beside b at s room i a = spared-number (spared-over b at s room i (i + 4) a) i (omega arith) (omega arith)
 
-pub number-aside : (b : List ℕ) (at v : ℕ) → at ≤ length b → (i : ℕ) → Aside at 4 i (i + 4) → number (put b at v) i ≡ number b i
+pub number-aside : (b : List ℕ) (at v : ℕ) → at ≤ length b → (i : ℕ) → Aside at 4 i (i + 4)
+    → number (put b at v) i ≡ number b i
 number-aside b at v room i a = spared-number (spared-put b at v room i (i + 4) a) i (omega arith) (omega arith)

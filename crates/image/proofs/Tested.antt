@@ -9,12 +9,15 @@ use lib.ListN.{length}
 use borrow.Author.Tests.{leb-true, eqb-true}
 use Rattle.stretch.specs.Below.{below}
 use Rattle.stretch.specs.Class.{every}
-use Rattle.letters.specs.Letters.{base64url}
-use Rattle.image.specs.Fields.{headerSize, edition, issued, journalCount, poolUsed, sequenceDigest, firstEdition, recordsOffset, poolOffset, journalPlace, poolPlace, recordCapacity, journalCapacity, journalOffset}
-use Rattle.image.specs.Formed.{laidOut, countsWithin, withinLimits, lengths, recordGood, entryGood, wellFormed, headerFormed}
+use Rattle.alphabets.specs.Alphabets.{base64url}
+use Rattle.image.specs.Fields.{headerSize, edition, issued, journalCount, poolUsed, sequenceDigest, firstEdition}
+use Rattle.image.specs.Fields.{recordsOffset, poolOffset, journalPlace, poolPlace, recordCapacity}
+use Rattle.image.specs.Fields.{journalCapacity, journalOffset}
+use Rattle.image.specs.Formed.{laidOut, countsWithin, withinLimits, lengths, recordGood, entryGood, wellFormed}
+use Rattle.image.specs.Formed.{headerFormed}
 use Rattle.image.specs.Header.{Header}
 use Rattle.image.proofs.Arranged.{header-journal, journal-pool}
-use Rattle.image.proofs.Tests.{all-append, all-one, both, last}
+use Rattle.image.proofs.Tests.{all-append, all-one, cond-both, cond-last}
 
 abbrev recordTests : List ℕ → List Bool
 recordTests b = below (recordGood b) (issued b) ∷ eqb (lengths b (issued b)) (poolUsed b) ∷ []
@@ -35,31 +38,31 @@ formed-steps b =
 pub header-tested : (b : List ℕ) → headerFormed b ≡ true → Header b
 unfolding headerFormed laidOut countsWithin withinLimits
 header-tested b h =
-    let laid = both (laidOut b) _ (both (leb headerSize (length b)) _ h .1) in
-    let counts = both _ _ (laid .1) in
-    let limits = both _ _ (counts .1) in
-    let digest = both (every base64url (sequenceDigest b)) _ (limits .1) in
-    let edition-first = both (eqb (edition b) firstEdition) _ (laid .0) in
-    let records-at = both (eqb (recordsOffset b) headerSize) _ (edition-first .1) in
-    let journal-at = both _ _ (records-at .1) in
+    let laid = cond-both (laidOut b) _ (cond-both (leb headerSize (length b)) _ h .1) in
+    let counts = cond-both _ _ (laid .1) in
+    let limits = cond-both _ _ (counts .1) in
+    let digest = cond-both (every base64url (sequenceDigest b)) _ (limits .1) in
+    let edition-first = cond-both (eqb (edition b) firstEdition) _ (laid .0) in
+    let records-at = cond-both (eqb (recordsOffset b) headerSize) _ (edition-first .1) in
+    let journal-at = cond-both _ _ (records-at .1) in
     let pool : poolOffset b ≡ poolPlace (recordCapacity b) (journalCapacity b)
-    = eqb-true _ _ (last _ (journal-at .1)) in
+    = eqb-true _ _ (cond-last _ (journal-at .1)) in
     let at = eqb-true (journalOffset b) (journalPlace (recordCapacity b)) (journal-at .0) in
-    let records = both _ _ (counts .0) in
-    let journalled = both _ _ (records .1) in
-    let records-limit = both _ _ (limits .0) in
-    let journal-limit = both _ _ (records-limit .1) in
-    let pool-limit = both _ _ (journal-limit .1) in
+    let records = cond-both _ _ (counts .0) in
+    let journalled = cond-both _ _ (records .1) in
+    let records-limit = cond-both _ _ (limits .0) in
+    let journal-limit = cond-both _ _ (records-limit .1) in
+    let pool-limit = cond-both _ _ (journal-limit .1) in
     record {
       journal = at;
       after-header = omega (arith, at, header-journal (recordCapacity b));
       pool = omega (arith, at, pool, journal-pool (recordCapacity b) (journalCapacity b));
       records = leb-true _ _ (records .0);
       journalled = leb-true _ _ (journalled .0);
-      used = leb-true _ _ (last _ (journalled .1));
+      used = leb-true _ _ (cond-last _ (journalled .1));
       records-limit = leb-true _ _ (records-limit .0);
       journal-limit = leb-true _ _ (journal-limit .0);
       pool-limit = leb-true _ _ (pool-limit .0);
-      reference-limit = leb-true _ _ (last _ (pool-limit .1));
-      whole = leb-true _ _ (last _ (digest .1));
+      reference-limit = leb-true _ _ (cond-last _ (pool-limit .1));
+      whole = leb-true _ _ (cond-last _ (digest .1));
     }

@@ -1,4 +1,5 @@
--- Tests as the code takes them: several together, one of several that pass, and the test of a class by its first byte outside.
+-- Tests as the code takes them: several together, one of several that pass, and the test of a class by its first byte
+-- outside.
 use Prim.Native.Nat.{ℕ}
 use mathlib.Core.Path.{_≡_, refl, _∙_, sym}
 use mathlib.Core.Bool.{Bool, true, false, cond, _&&_}
@@ -37,13 +38,13 @@ all-one true = refl
 all-one false = refl
 
 -- the first of the tests that pass, and the others
-pub both : (t u : Bool) → cond t u false ≡ true → (t ≡ true) × (u ≡ true)
-both true u h = (refl, h)
-both false u h = (cc, cc)
+pub cond-both : (t u : Bool) → cond t u false ≡ true → (t ≡ true) × (u ≡ true)
+cond-both true u h = (refl, h)
+cond-both false u h = (cc, cc)
 
--- the last of them
-pub last : (t : Bool) → cond t true false ≡ true → t ≡ true
-last t h = both t true h .0
+-- the cond-last of them
+pub cond-last : (t : Bool) → cond t true false ≡ true → t ≡ true
+cond-last t h = cond-both t true h .0
 
 pub outside-end : (p : ℕ → Bool) (s : List ℕ) (n : ℕ) → length s ≡ n → eqb (firstOutside p s) n ≡ every p s
 outside-end p s n e =

@@ -9,15 +9,19 @@ use lib.ListN.{length}
 use borrow.Author.Tests.{leb-true, le-leb, eqb-true, eq-eqb}
 use Rattle.stretch.proofs.Below.{below-at, below-all}
 use Rattle.stretch.specs.Class.{every}
-use Rattle.letters.specs.Letters.{residue, base64url}
-use Rattle.image.specs.Fields.{headerSize, edition, issued, journalCount, poolUsed, referenceLength, sequenceDigest, startOf, endOf, offsetOf, statusOf, replacementOf, entryOf, firstEdition, active, recordsOffset, poolPlace, recordCapacity, journalCapacity, poolOffset}
-use Rattle.image.specs.Formed.{laidOut, countsWithin, withinLimits, lengths, recordGood, entryGood, wellFormed, headerFormed}
+use Rattle.alphabets.specs.Alphabets.{residue, base64url}
+use Rattle.image.specs.Fields.{headerSize, edition, issued, journalCount, poolUsed, referenceLength}
+use Rattle.image.specs.Fields.{sequenceDigest, startOf, endOf, offsetOf, statusOf, replacementOf, entryOf}
+use Rattle.image.specs.Fields.{firstEdition, active, recordsOffset, poolPlace, recordCapacity, journalCapacity}
+use Rattle.image.specs.Fields.{poolOffset}
+use Rattle.image.specs.Formed.{laidOut, countsWithin, withinLimits, lengths, recordGood, entryGood, wellFormed}
+use Rattle.image.specs.Formed.{headerFormed}
 use Rattle.image.specs.Header.{Header}
 use Rattle.image.proofs.Arranged.{journal-pool}
-use Rattle.image.proofs.Tests.{both, last}
+use Rattle.image.proofs.Tests.{cond-both, cond-last}
 use Rattle.image.proofs.Tested.{formed-steps, header-tested}
 
--- the record behind the first k
+-- the record after the first k
 pub record FormedRecord (b : List ℕ) (k : ℕ) : Type 0 where
   pub ordered : startOf b (suc k) ≤ endOf b (suc k)
   pub inside : endOf b (suc k) ≤ referenceLength b
@@ -44,44 +48,50 @@ module _ (b : List ℕ) where
   record-facts : (k : ℕ) → recordGood b k ≡ true → FormedRecord b k
   unfolding recordGood
   record-facts k h =
-      let t0 = both _ _ h in
-      let t1 = both _ _ (t0 .1) in
-      let t2 = both _ _ (t1 .1) in
-      let t3 = both _ _ (t2 .1) in
+      let t0 = cond-both _ _ h in
+      let t1 = cond-both _ _ (t0 .1) in
+      let t2 = cond-both _ _ (t1 .1) in
+      let t3 = cond-both _ _ (t2 .1) in
       record {
         ordered = leb-true _ _ (t0 .0);
         inside = leb-true _ _ (t1 .0);
         status = leb-true _ _ (t2 .0);
         offset = eqb-true _ _ (t3 .0);
-        residues = last _ (t3 .1);
+        residues = cond-last _ (t3 .1);
       }
 
   record-good : (k : ℕ) → FormedRecord b k → recordGood b k ≡ true
   unfolding recordGood
-  record-good k r = rw (le-leb _ _ (r .ordered), le-leb _ _ (r .inside), le-leb _ _ (r .status), eq-eqb _ _ (r .offset), r .residues)
+  record-good k r = rw (
+    le-leb _ _ (r .ordered),
+    le-leb _ _ (r .inside),
+    le-leb _ _ (r .status),
+    eq-eqb _ _ (r .offset),
+    r .residues,
+  )
 
   entry-facts : (j : ℕ) → entryGood b j ≡ true → FormedEntry b j
   unfolding entryGood
   entry-facts j h =
-      let t0 = both _ _ h in
-      record { some = leb-true _ _ (t0 .0); numbered = leb-true _ _ (last _ (t0 .1)) }
+      let t0 = cond-both _ _ h in
+      record { some = leb-true _ _ (t0 .0); numbered = leb-true _ _ (cond-last _ (t0 .1)) }
 
   entry-good : (j : ℕ) → FormedEntry b j → entryGood b j ≡ true
   unfolding entryGood
   entry-good j e = rw (le-leb _ _ (e .some), le-leb _ _ (e .numbered))
 
-  pub formed : wellFormed b ≡ true → Formed b
+  pub wellFormed-formed : wellFormed b ≡ true → Formed b
   unfolding laidOut headerFormed
-  formed h =
-      let header = both (headerFormed b) _ (rw (formed-steps b) at h) in
-      let rest = both _ _ (header .1) in
-      let records = both _ _ (rest .0) in
-      let laid = both (laidOut b) _ (both (leb headerSize (length b)) _ (header .0) .1) in
-      let edition = both _ _ (laid .0) in
-      let records-at = both _ _ (edition .1) in
-      let counts = both (countsWithin b) _ (laid .1) in
-      let limits = both (withinLimits b) _ (counts .1) in
-      let digest = both _ _ (limits .1) in
+  wellFormed-formed h =
+      let header = cond-both (headerFormed b) _ (rw (formed-steps b) at h) in
+      let rest = cond-both _ _ (header .1) in
+      let records = cond-both _ _ (rest .0) in
+      let laid = cond-both (laidOut b) _ (cond-both (leb headerSize (length b)) _ (header .0) .1) in
+      let edition = cond-both _ _ (laid .0) in
+      let records-at = cond-both _ _ (edition .1) in
+      let counts = cond-both (countsWithin b) _ (laid .1) in
+      let limits = cond-both (withinLimits b) _ (counts .1) in
+      let digest = cond-both _ _ (limits .1) in
       record {
         header = header-tested b (header .0);
         edition = eqb-true _ _ (edition .0);
@@ -102,13 +112,22 @@ module _ (b : List ℕ) where
 
   counts-within : Formed b → countsWithin b ≡ true
   unfolding countsWithin
-  counts-within f = rw (le-leb _ _ (f .header .records), le-leb _ _ (f .header .journalled), le-leb _ _ (f .header .used))
+  counts-within f = rw (
+    le-leb _ _ (f .header .records),
+    le-leb _ _ (f .header .journalled),
+    le-leb _ _ (f .header .used),
+  )
 
   within-limits : Formed b → withinLimits b ≡ true
   unfolding withinLimits
   within-limits f =
       let h = f .header in
-      rw (le-leb _ _ (h .records-limit), le-leb _ _ (h .journal-limit), le-leb _ _ (h .pool-limit), le-leb _ _ (h .reference-limit))
+      rw (
+        le-leb _ _ (h .records-limit),
+        le-leb _ _ (h .journal-limit),
+        le-leb _ _ (h .pool-limit),
+        le-leb _ _ (h .reference-limit),
+      )
 
   header-formed : Formed b → headerFormed b ≡ true
   unfolding headerFormed

@@ -7,8 +7,12 @@ use lib.ListN.{length}
 use Rattle.stretch.specs.Below.{below}
 use Rattle.refusal.specs.Limits.{referenceLimit}
 use Rattle.stretch.specs.Class.{every}
-use Rattle.letters.specs.Letters.{residue, base64url}
-use Rattle.image.specs.Fields.{headerSize, countLimit, poolLimit, journalPlace, poolPlace, edition, recordCapacity, issued, journalCapacity, journalCount, poolCapacity, poolUsed, referenceLength, sequenceDigest, startOf, endOf, offsetOf, lengthOf, statusOf, replacementOf, entryOf, firstEdition, active, recordsOffset, journalOffset, poolOffset}
+use Rattle.alphabets.specs.Alphabets.{residue, base64url}
+use Rattle.image.specs.Fields.{headerSize, countLimit, poolLimit, journalPlace, poolPlace, edition}
+use Rattle.image.specs.Fields.{recordCapacity, issued, journalCapacity, journalCount, poolCapacity, poolUsed}
+use Rattle.image.specs.Fields.{referenceLength, sequenceDigest, startOf, endOf, offsetOf, lengthOf, statusOf}
+use Rattle.image.specs.Fields.{replacementOf, entryOf, firstEdition, active, recordsOffset, journalOffset}
+use Rattle.image.specs.Fields.{poolOffset}
 
 -- all of the tests pass
 abbrev pub all : List Bool → Bool
@@ -29,7 +33,8 @@ laidOut b =
 -- the counts within the capacities
 unfoldable pub countsWithin : List ℕ → Bool
 countsWithin b =
-    all (leb (issued b) (recordCapacity b) ∷ leb (journalCount b) (journalCapacity b) ∷ leb (poolUsed b) (poolCapacity b) ∷ [])
+    all (leb (issued b) (recordCapacity b) ∷ leb (journalCount b) (journalCapacity b)
+    ∷ leb (poolUsed b) (poolCapacity b) ∷ [])
 
 -- the capacities and the reference's length within limits
 unfoldable pub withinLimits : List ℕ → Bool
@@ -61,7 +66,7 @@ unfoldable pub lengths : List ℕ → ℕ → ℕ
 lengths b zero = 0
 lengths b (suc k) = lengths b k + lengthOf b (suc k)
 
--- the record behind the first k
+-- the record after the first k
 unfoldable pub recordGood : List ℕ → ℕ → Bool
 recordGood b k =
     all (

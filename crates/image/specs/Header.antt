@@ -1,4 +1,4 @@
--- What the header of a well-formed image says, as the code that stands behind the test needs it.
+-- What the header of a well-formed image says, as the code that stands after the test needs it.
 use Prim.Native.Nat.{ℕ, _+_, _*_, _≤_}
 use mathlib.Core.Path.{_≡_}
 use mathlib.Core.List.{List}

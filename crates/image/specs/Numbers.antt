@@ -14,7 +14,7 @@ unfoldable pub bytes : ℕ → ℕ → List ℕ
 bytes zero v = []
 bytes (suc n) v = v % 256 ∷ bytes n (v / 256)
 
--- numbers, one behind the other
+-- numbers, one after the other
 unfoldable pub numbers : List ℕ → List ℕ
 numbers [] = []
 numbers (v ∷ vs) = bytes 4 v ++ numbers vs

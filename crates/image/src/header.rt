@@ -18,13 +18,13 @@ use super::REFERENCE_LENGTH_AT;
 use super::number::read_number;
 use super::places::journal_at;
 use super::places::pool_at;
-use letters::first_outside_base64url;
+use alphabets::first_outside_base64url;
 ghost use mathlib.Core.Path.{_≡_};
 ghost use Prim.Native.Nat.{_+_, _≤_};
 ghost use lib.Dec.{leb};
 ghost use lib.ListN.{length};
 ghost use Rattle.stretch.specs.Class.{every};
-ghost use Rattle.letters.specs.Letters.{base64url};
+ghost use Rattle.alphabets.specs.Alphabets.{base64url};
 ghost use Rattle.image.specs.Fields.{headerSize, poolCapacity, sequenceDigest, poolOffset};
 ghost use Rattle.image.specs.Formed.{laidOut, countsWithin, withinLimits, headerFormed};
 

@@ -1,5 +1,5 @@
 // The bytes of a register image (document 01, "The register image"): where each field stands, its
-// numbers, and the test of well-formedness. Crates `lookup`, `changes`, `numbering`, `blank`, `entering` and
+// numbers, and the test of well-formedness. Crates `lookup`, `changes`, `form_entry`, `blank`, `entry` and
 // `register` stand on it.
 //
 // specs/Numbers.antt has the numbers, specs/Fields.antt the fields, and specs/Formed.antt when an image

@@ -10,7 +10,7 @@ use super::REFERENCE_LENGTH_AT;
 use super::STATUS_IN_RECORD;
 use super::number::read_number;
 use super::places::record_at;
-use letters::first_foreign;
+use alphabets::first_foreign;
 ghost use mathlib.Core.Path.{_≡_};
 ghost use mathlib.Core.Bool.{false, cond};
 ghost use mathlib.Core.List.{[], _∷_};
@@ -20,7 +20,7 @@ ghost use lib.ListN.{length};
 ghost use Rattle.stretch.specs.Below.{below};
 ghost use Rattle.stretch.specs.Part.{part};
 ghost use Rattle.stretch.specs.Class.{every};
-ghost use Rattle.letters.specs.Letters.{residue};
+ghost use Rattle.alphabets.specs.Alphabets.{residue};
 ghost use Rattle.image.specs.Numbers.{number};
 ghost use Rattle.image.specs.Fields.{issued, poolUsed, poolOffset, endInRecord, offsetInRecord, statusInRecord};
 ghost use Rattle.image.specs.Fields.{statusOf, active};
@@ -69,7 +69,7 @@ fn pool_formed(image: &[u8], letters: usize) -> bool
 }
 
 // Whether every record is good, and their residues fill the part of the pool that is used. The residues
-// are tested in one pass, since the records' parts of the pool lie one behind the other.
+// are tested in one pass, since the records' parts of the pool lie one after the other.
 pub fn records_formed(image: &[u8]) -> bool
     requires { ⌜ Header (now image) ⌝ }
     ensures { λ r. ⌜ r ≡ cond (below (recordGood (now (image .entry))) (issued (now (image .entry))))

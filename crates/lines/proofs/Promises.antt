@@ -13,7 +13,10 @@ starts-once input a b p q =
     let e : a .reference ≡ b .reference = p .reference ∙ sym (q .reference) in
     same-step a b e (p .next ∙ rw e (sym (q .next))) (p .written ∙ sym (q .written))
 
-pub steps-once : (input : List ℕ) (from : Step) (out : List ℕ) (a b : Step) (l m : List ℕ) → Steps input from out a l → Steps input from out b m
+pub steps-once : (input : List ℕ) (from : Step) (out : List ℕ) (a b : Step) (l m : List ℕ) → Steps input from out a l
+    → Steps input from out b m
     → (a ≡ b) × (l ≡ m)
-steps-once input from out a b l m p q =
-    (same-step a b (p .reference ∙ sym (q .reference)) (p .next ∙ sym (q .next)) (p .line .next ∙ sym (q .line .next)), p .line .laid ∙ sym (q .line .laid))
+steps-once input from out a b l m p q = (
+  same-step a b (p .reference ∙ sym (q .reference)) (p .next ∙ sym (q .next)) (p .line .next ∙ sym (q .line .next)),
+  p .line .laid ∙ sym (q .line .laid),
+)

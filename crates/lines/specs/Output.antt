@@ -3,8 +3,8 @@ use Prim.Native.Nat.{ℕ}
 use mathlib.Core.List.{List, [], _∷_, _++_}
 use lib.ListN.{take}
 use Rattle.fields.specs.Cut.{parted}
-use Rattle.saying.specs.Said.{lineFeed}
-use Rattle.answers.specs.Answers.{answerLine}
+use Rattle.input_line.specs.Meaning.{lineFeed}
+use Rattle.answer_line.specs.Answers.{answerLine}
 
 -- what follows the last line feed, if empty, is no line
 abbrev pub ended : List (List ℕ) → List (List ℕ)

@@ -1,4 +1,4 @@
--- From line to line through an input: what each step writes, and what is still to be printed behind it.
+-- From line to line through an input: what each step writes, and what is still to be printed after it.
 use Prim.Native.Nat.{ℕ, _+_, _<_, _≤_}
 use mathlib.Core.Path.{_≡_}
 use mathlib.Core.List.{List, [], _∷_, _++_}
@@ -6,8 +6,8 @@ use lib.ListN.{length, take, drop}
 use Rattle.stretch.specs.Over.{Wrote}
 use Rattle.stretch.specs.Part.{part}
 use Rattle.fields.specs.Cut.{parted, nextOf}
-use Rattle.saying.specs.Said.{lineFeed}
-use Rattle.answers.specs.Answers.{answerLine, beyond}
+use Rattle.input_line.specs.Meaning.{lineFeed}
+use Rattle.answer_line.specs.Answers.{answerLine, beyond}
 use Rattle.lines.specs.declared.Step.{Step}
 use Rattle.lines.specs.Output.{ended, answersTo, output, inputLimit}
 
@@ -30,20 +30,20 @@ Read input = length input ≤ inputLimit
 abbrev pub Enough : List ℕ → List ℕ → Type 0
 Enough input out = (Read input) × (length input + beyond ≤ length out)
 
--- the first step goes behind the first line, and all that is printed is still to be printed
+-- the first step goes after the first line, and all that is printed is still to be printed
 pub record Starts (input : List ℕ) (to : Step) : Type 0 where
   pub reference : to .reference ≡ nextOf lineFeed input 0
   pub next : to .next ≡ to .reference + 1
   pub written : to .written ≡ 0
   pub whole : output input ≡ rest input to
 
--- a further step can be taken: the reference is behind, some of the input is left, and there is room for any answer
+-- a further step can be taken: the reference is after, some of the input is left, and there is room for any answer
 pub record Ready (input : List ℕ) (from : Step) (out : List ℕ) : Type 0 where
   pub behind : from .reference < from .next
   pub left : from .next < length input
   pub room : length input + beyond ≤ length out
 
--- it writes the answer to the line, which is to be printed before all that is to be printed behind it
+-- it writes the answer to the line, which is to be printed before all that is to be printed after it
 pub record Steps (input : List ℕ) (from : Step) (out : List ℕ) (to : Step) (left : List ℕ) : Type 0 where
   pub reference : to .reference ≡ from .reference
   pub next : to .next ≡ nextOf lineFeed input (from .next) + 1
@@ -56,7 +56,7 @@ pub data Pieces (input : List ℕ) : Step → List (List ℕ) → Type 0 where
   one : (s t : Step) (out left : List ℕ) (ps : List (List ℕ)) → Steps input s out t left → Pieces input t ps
       → Pieces input s (take (t .written) left ∷ ps)
 
--- pieces put one behind another
+-- pieces put one after another
 abbrev pub inARow : List (List ℕ) → List ℕ
 inARow [] = []
 inARow (p ∷ ps) = p ++ inARow ps

@@ -11,7 +11,7 @@ pub use walk::next_step;
 pub const INPUT_LIMIT: usize = 65_536;
 
 // A buffer with room for every answer to an input within that limit.
-pub const ROOM: usize = INPUT_LIMIT + answers::BEYOND;
+pub const ROOM: usize = INPUT_LIMIT + answer_line::BEYOND;
 
 // Where a step comes to: the end of the reference, which is the first line; the place where the next line
 // begins, past the end where none does; and how many bytes of the buffer are to be printed.

@@ -1,10 +1,10 @@
 // From line to line.
 use super::Step;
-use answers::answer;
-use saying::line_end;
+use answer_line::answer;
+use input_line::line_end;
 ghost use Rattle.lines.specs.Steps.{Read, Starts, Ready, Steps};
 
-// To the line behind the reference.
+// To the line after the reference.
 pub fn first_step(input: &[u8]) -> Step
     requires { ⌜ Read (now input) ⌝ }
     ensures { λ r. ⌜ Starts (now (input .entry)) r ⌝ }

@@ -8,11 +8,11 @@ use lib.Dec.{eqb}
 use lib.ListN.{length}
 use Rattle.stretch.specs.Same.{same}
 use Rattle.stretch.proofs.Same.{same-lengths}
-use Rattle.normal.specs.Form.{Normal}
+use Rattle.normal_form.specs.Form.{Normal}
 use Rattle.image.specs.Fields.{issued, poolOffset, startOf, endOf, offsetOf, lengthOf, statusOf, replacementOf}
 use Rattle.image.specs.Formed.{all, wellFormed}
 use Rattle.image.proofs.Tests.{all-append, all-one}
-use Rattle.image.proofs.WellFormed.{formed}
+use Rattle.image.proofs.WellFormed.{wellFormed-formed}
 use Rattle.image.proofs.Lengths.{formed-inside, formed-length}
 use Rattle.lookup.specs.Lookup.{holds}
 
@@ -29,9 +29,11 @@ holds-steps b status f i =
 module _ (b : List ℕ) (h : wellFormed b ≡ true) (i : ℕ) (numbered : (1 ≤ i) × (i ≤ issued b)) where
   pub replacement-inside : poolOffset b + offsetOf b i + lengthOf b i ≤ length b
   replacement-inside =
-      let f = formed b h in
+      let f = wellFormed-formed b h in
       omega (arith, formed-inside b f i (numbered .0) (numbered .1), f .header .used, f .header .whole)
 
   -- a stretch of another length is not the replacement
   pub replacement-apart : (s : List ℕ) → (lengthOf b i ≡ length s → ⊥) → same (replacementOf b i) s ≡ false
-  replacement-apart s apart = same-lengths (replacementOf b i) s (λ e. apart (sym (formed-length b (formed b h) i (numbered .0) (numbered .1)) ∙ e))
+  replacement-apart s apart =
+      same-lengths (replacementOf b i) s
+      (λ e. apart (sym (formed-length b (wellFormed-formed b h) i (numbered .0) (numbered .1)) ∙ e))

@@ -1,4 +1,4 @@
--- A stretch against others laid one behind the other: it is tested part by part.
+-- A stretch against others laid one after the other: it is tested part by part.
 use Prim.Native.Nat.{ℕ, _+_, _≤_}
 use native.Mathlib.Nat.{le-of-suc-le-suc, not-suc-le-zero, add-sub-cancel-left}
 use native.Mathlib.Omega.{arith}
@@ -13,7 +13,8 @@ use Rattle.stretch.specs.Same.{same}
 use Rattle.stretch.proofs.Cases.{by-cases}
 use Rattle.stretch.proofs.Tail.{lent-tail}
 
-same-two : (s a b : List ℕ) → length a ≤ length s → same s (a ++ b) ≡ cond (same (take (length a) s) a) (same (drop (length a) s) b) false
+same-two : (s a b : List ℕ) → length a ≤ length s
+    → same s (a ++ b) ≡ cond (same (take (length a) s) a) (same (drop (length a) s) b) false
 unfolding same
 same-two s [] b h = refl
 same-two [] (x ∷ a) b h = absurd (not-suc-le-zero h)

@@ -1,4 +1,5 @@
--- The lowest number that passes a test: it passes, it stays the lowest up to every larger bound, and where there is none, none does.
+-- The lowest number that passes a test: it passes, it stays the lowest up to every larger bound, and where there is
+-- none, none does.
 use Prim.Native.Nat.{ℕ, zero, suc, _+_, _≤_}
 use native.Mathlib.Nat.{eq-or-lt-of-le, le-of-suc-le-suc, not-suc-le-zero}
 use native.Mathlib.Numerals.{add-one}

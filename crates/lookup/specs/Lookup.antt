@@ -4,8 +4,8 @@ use mathlib.Core.Bool.{Bool, cond}
 use mathlib.Core.List.{List, [], _∷_, _++_}
 use lib.Dec.{eqb}
 use Rattle.stretch.specs.Same.{same}
-use Rattle.normal.specs.Form.{Normal}
-use Rattle.forming.specs.declared.Form.{Form}
+use Rattle.normal_form.specs.Form.{Normal}
+use Rattle.normal_form_calls.specs.declared.Form.{Form}
 use Rattle.image.specs.Fields.{issued, startOf, endOf, statusOf, replacementOf}
 use Rattle.image.specs.Formed.{all}
 

@@ -1,5 +1,4 @@
 // How a normal form is found among the records. Its replacement lies in three stretches.
-use forming::Form;
 use image::END_IN_RECORD;
 use image::ISSUED_AT;
 use image::LENGTH_IN_RECORD;
@@ -8,6 +7,7 @@ use image::POOL_OFFSET_AT;
 use image::STATUS_IN_RECORD;
 use image::read_number;
 use image::record_at;
+use normal_form_calls::Form;
 use stretch::equal;
 ghost use mathlib.Core.Path.{_≡_};
 ghost use mathlib.Core.Bool.{true};
@@ -21,7 +21,7 @@ ghost use Rattle.image.specs.Formed.{all, wellFormed};
 ghost use Rattle.image.specs.Header.{Header};
 ghost use Rattle.lookup.specs.Lookup.{asked, holds, lowestHolding};
 
-// Whether a stretch is the three, one behind the other.
+// Whether a stretch is the three, one after the other.
 fn equal_three(s: &[u8], a: &[u8], b: &[u8], c: &[u8]) -> bool
     requires { ⌜ length (now s) ≡ length (now a) + (length (now b) + length (now c)) ⌝ }
     ensures { λ r. ⌜ r ≡ same (now (s .entry)) (now (a .entry) ++ (now (b .entry) ++ now (c .entry))) ⌝ }

@@ -8,11 +8,13 @@ module _ {A L : Type 0} (f : Refusal → A) (v : Verdict) (said : A) (old new : 
   pub keeps-refused : (r : Refusal) → v ≡ refused r → Keeps f v said old new (f r) old
   keeps-refused r e = record { answers = rw e; leaves = rw e }
 
-  pub keeps-accepted : (answer : A) (left : L) → v ≡ accepted → answer ≡ said → left ≡ new → Keeps f v said old new answer left
+  pub keeps-accepted : (answer : A) (left : L) → v ≡ accepted → answer ≡ said → left ≡ new
+      → Keeps f v said old new answer left
   keeps-accepted answer left e a l = record { answers = rw (e, a); leaves = rw (e, l) }
 
   -- the same verdict over other grounds
-  pub keeps-as : (w : Verdict) (answer : A) (left : L) → v ≡ w → Keeps f w said old new answer left → Keeps f v said old new answer left
+  pub keeps-as : (w : Verdict) (answer : A) (left : L) → v ≡ w → Keeps f w said old new answer left
+      → Keeps f v said old new answer left
   keeps-as w answer left e p = rw e p
 
 pub keeps-once : {A L : Type 0} (f : Refusal → A) (v : Verdict) (said : A) (old new : L) (a₁ a₂ : A) (l₁ l₂ : L)

@@ -3,4 +3,4 @@ pub mod Unique
 pub mod Verdict
 pub mod Keeps
 pub mod Writes
-pub mod Says
+pub mod WritesUnless

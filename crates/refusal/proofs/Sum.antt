@@ -12,17 +12,19 @@ use Rattle.stretch.proofs.Tail.{lent-tail}
 pub exceeds-first : (a b limit : ℕ) → limit < a → ltb limit (a + b) ≡ true
 exceeds-first a b limit h = lt-ltb limit (a + b) (omega arith)
 
-told : (a b limit : ℕ) (t : Bool) → a ≤ limit → ltb (limit - a) b ≡ t → t ≡ ltb limit (a + b)
-told a b limit true h e = sym (lt-ltb limit (a + b) (omega (arith, ltb-true (limit - a) b e)))
-told a b limit false h e = sym (le-ltb limit (a + b) (omega (arith, ltb-false (limit - a) b e)))
+exceeds-by : (a b limit : ℕ) (t : Bool) → a ≤ limit → ltb (limit - a) b ≡ t → t ≡ ltb limit (a + b)
+exceeds-by a b limit true h e = sym (lt-ltb limit (a + b) (omega (arith, ltb-true (limit - a) b e)))
+exceeds-by a b limit false h e = sym (le-ltb limit (a + b) (omega (arith, ltb-false (limit - a) b e)))
 
 pub exceeds-rest : (a b limit : ℕ) → a ≤ limit → ltb (limit - a) b ≡ ltb limit (a + b)
-exceeds-rest a b limit h = told a b limit (ltb (limit - a) b) h refl
+exceeds-rest a b limit h = exceeds-by a b limit (ltb (limit - a) b) h refl
 
 -- a place that leaves room for n bytes lies in the buffer
 pub place-within : (room place n : ℕ) → ltb room (place + n) ≡ false → place ≤ room
 place-within room place n t = omega (arith, ltb-false room (place + n) t)
 
 -- and the tail that is lent from there has that room
-pub tail-room : (out : List ℕ) (place n : ℕ) → ltb (length out) (place + n) ≡ false → n ≤ length (take (length out - place) (drop place out))
-tail-room out place n t = rw (lent-tail out place, length-drop place out) (omega (arith, ltb-false (length out) (place + n) t))
+pub tail-room : (out : List ℕ) (place n : ℕ) → ltb (length out) (place + n) ≡ false
+    → n ≤ length (take (length out - place) (drop place out))
+tail-room out place n t =
+    rw (lent-tail out place, length-drop place out) (omega (arith, ltb-false (length out) (place + n) t))

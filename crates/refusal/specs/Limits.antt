@@ -1,4 +1,5 @@
--- Document 01, "Coordinates and letters" and "Texts and identifiers": the limits. Those of an image stand with its fields, in crate `image`.
+-- Document 01, "Coordinates and letters" and "Texts and identifiers": the limits. Those of an image stand with its
+-- fields, in crate `image`.
 use Prim.Native.Nat.{ℕ}
 
 -- residues of a reference, and of all parts of a running digest together

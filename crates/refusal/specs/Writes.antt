@@ -1,4 +1,5 @@
--- What a call that writes a text into a lent buffer promises, over its verdict: how many bytes it says it wrote, and what it leaves.
+-- What a call that writes a text into a lent buffer promises, over its verdict: how many bytes it says it wrote, and
+-- what it leaves.
 use Prim.Native.Nat.{ℕ}
 use mathlib.Core.List.{List, [], _∷_, _++_}
 use lib.ListN.{length}
@@ -14,6 +15,6 @@ abbrev pub Writes : Verdict → List ℕ → List ℕ → ℕ → Written → Li
 Writes v text out place = Keeps Refused v (Bytes (length text)) out (over out place text)
 
 -- the text is written from the place on where none of the grounds holds, nor 6 after them
-unfoldable pub Says : List Ground → List ℕ → List ℕ → ℕ → Written → List ℕ → Type 0
-Says grounds text out place =
+unfoldable pub WritesUnless : List Ground → List ℕ → List ℕ → ℕ → Written → List ℕ → Type 0
+WritesUnless grounds text out place =
     Writes (verdict (grounds ++ (outputTooShort (length out) place (length text) ∷ []))) text out place

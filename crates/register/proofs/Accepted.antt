@@ -10,12 +10,12 @@ use Rattle.refusal.specs.Verdict.{accepted, verdict}
 use Rattle.refusal.proofs.Verdict.{none-holds}
 use Rattle.image.specs.Fields.{headerSize, issued, journalCapacity, journalCount, statusOf, active}
 use Rattle.image.specs.Formed.{wellFormed}
-use Rattle.image.proofs.WellFormed.{formed}
+use Rattle.image.proofs.WellFormed.{wellFormed-formed}
 use Rattle.register.specs.Calls.{withdrawalGrounds, undoGrounds}
 
 -- the header of a well-formed image can be read
 pub header-room : (b : List ℕ) → wellFormed b ≡ true → headerSize ≤ length b
-header-room b w = let h = formed b w .header in omega (arith, h .after-header, h .pool, h .whole)
+header-room b w = let h = wellFormed-formed b w .header in omega (arith, h .after-header, h .pool, h .whole)
 
 pub record Withdrawable (b : List ℕ) (i : ℕ) : Type 0 where
   pub formed : wellFormed b ≡ true
@@ -24,9 +24,9 @@ pub record Withdrawable (b : List ℕ) (i : ℕ) : Type 0 where
   pub on : statusOf b i ≡ active
   pub room : journalCount b < journalCapacity b
 
-pub withdrawable : (b : List ℕ) (i : ℕ) → verdict (withdrawalGrounds b i) ≡ accepted → Withdrawable b i
+pub accepted-withdrawable : (b : List ℕ) (i : ℕ) → verdict (withdrawalGrounds b i) ≡ accepted → Withdrawable b i
 unfolding withdrawalGrounds
-withdrawable b i v =
+accepted-withdrawable b i v =
     record {
       formed = not-false _ (none-holds (withdrawalGrounds b i) v 0);
       from = let e = eqb-false i 0 (none-holds (withdrawalGrounds b i) v 1) in omega (arith, e);
@@ -39,9 +39,9 @@ pub record Undoable (b : List ℕ) : Type 0 where
   pub formed : wellFormed b ≡ true
   pub some : 1 ≤ journalCount b
 
-pub undoable : (b : List ℕ) → verdict (undoGrounds b) ≡ accepted → Undoable b
+pub accepted-undoable : (b : List ℕ) → verdict (undoGrounds b) ≡ accepted → Undoable b
 unfolding undoGrounds
-undoable b v =
+accepted-undoable b v =
     record {
       formed = not-false _ (none-holds (undoGrounds b) v 0);
       some = let e = eqb-false (journalCount b) 0 (none-holds (undoGrounds b) v 1) in omega (arith, e);

@@ -7,7 +7,8 @@ use Rattle.refusal.specs.declared.Outcome.{Outcome}
 use Rattle.refusal.specs.declared.Outcome.the-variants.{Accepted, Refused}
 use Rattle.changes.specs.Changes.{withdrawn, latest, undone, sealed}
 use Rattle.refusal.specs.Keeps.{Keeps}
-use Rattle.changes.specs.Grounds.{notWellFormed, noJournalRoom, numberZero, numberAboveIssued, numberNotActive, nothingToUndo}
+use Rattle.changes.specs.Grounds.{notWellFormed, noJournalRoom, numberZero, numberAboveIssued, numberNotActive}
+use Rattle.changes.specs.Grounds.{nothingToUndo}
 use Rattle.register.specs.declared.Undone.{Undone}
 use Rattle.register.specs.declared.Undone.the-variants.{Number, Refused as NotUndone}
 

@@ -1,4 +1,4 @@
--- What the functions behind the calls' tests promise.
+-- What the functions after the calls' tests promise.
 use Prim.Native.Nat.{ℕ}
 use mathlib.Core.List.{List}
 use Rattle.refusal.specs.Verdict.{verdict, tell}

@@ -1,4 +1,4 @@
-// Undo of the last change, and the seal behind which none is undone.
+// Undo of the last change, and the seal after which none is undone.
 use super::Undone;
 use changes::mark;
 use image::ACTIVE;

@@ -1,14 +1,14 @@
 // Prints document 01's register example: each call and its answer on a line, then the buffer. They have
 // to be those of the file stdout, which a second program makes, tests/second/register_vectors.py.
-use numbering::Entered;
-use print::hex;
-use print::labelled;
-use print::refused;
-use print::text;
+use form_entry::Entered;
+use printer::hex;
+use printer::labelled;
+use printer::refused;
+use printer::text;
 use refusal::Outcome;
 use register::Undone;
 
-// The image takes 143 bytes of the buffer; what stands behind it is to stay.
+// The image takes 143 bytes of the buffer; what stands after it is to stay.
 const SIZE: usize = 160;
 
 const ROW: usize = 16;
@@ -73,7 +73,7 @@ fn entry(image: &mut [u8], start: u64, end: u64, replacement: &[u8]) {
     labelled(b" ", end);
     text(b" ");
     text(replacement);
-    entered(entering::entry(image, &DIGEST, &REFERENCE, start, end, replacement));
+    entered(entry::entry(image, &DIGEST, &REFERENCE, start, end, replacement));
     left(image);
 }
 

@@ -1,4 +1,4 @@
--- Whole blocks and what lies behind them, over a message that goes on.
+-- Whole blocks and what lies after them, over a message that goes on.
 use Prim.Native.Nat.{ℕ, zero, suc, _+_, _*_, _/_, _%_, _<_, _≤_}
 use native.Mathlib.Omega.{arith}
 use native.Mathlib.Nat.{add-zero, add-suc, add-mul}
@@ -6,8 +6,8 @@ use mathlib.Core.Path.{_≡_, refl, sym, ap}
 use mathlib.Core.List.{List, [], _++_}
 use lib.ListN.{length, drop, length-append, length-drop, drop-of-length-le}
 use lib.Seq.{take-append-le, drop-append-le, drop-drop}
-use Rattle.compression.specs.declared.Hash.{Hash}
-use Rattle.compression.specs.Blocks.{absorbed, hashed}
+use Rattle.sha512_block.specs.declared.Hash.{Hash}
+use Rattle.sha512_block.specs.Blocks.{absorbed, hashed}
 use Rattle.sha512.specs.Message.{rest}
 
 -- the first n blocks don't see what follows them
@@ -16,7 +16,11 @@ unfolding absorbed
 absorbed-first zero s xs ys h = refl
 absorbed-first (suc n) s xs ys h =
     let k : n * 128 + 128 ≤ length xs = omega arith in
-    rw (absorbed-first n s xs ys (omega arith), drop-append-le (n * 128) xs ys (omega arith), take-append-le 128 (drop (n * 128) xs) ys (simp length-drop (omega arith)))
+    rw (
+      absorbed-first n s xs ys (omega arith),
+      drop-append-le (n * 128) xs ys (omega arith),
+      take-append-le 128 (drop (n * 128) xs) ys (simp length-drop (omega arith)),
+    )
 
 absorbed-add : (a n : ℕ) (s : Hash) (m : List ℕ) → absorbed (a + n) s m ≡ absorbed n (absorbed a s m) (drop (a * 128) m)
 unfolding absorbed
@@ -28,7 +32,7 @@ pub length-rest : (m : List ℕ) → length (rest m) ≡ length m % 128
 unfolding rest
 length-rest m = rw length-drop (omega arith)
 
--- the whole blocks of xs, and then those of what lies behind them, are those of the join
+-- the whole blocks of xs, and then those of what lies after them, are those of the join
 blocks-on : (xs ys : List ℕ) → length (xs ++ ys) / 128 ≡ length xs / 128 + length (rest xs ++ ys) / 128
 blocks-on xs ys = rw (length-append xs ys, length-append (rest xs) ys, length-rest xs) (omega arith)
 
@@ -59,7 +63,7 @@ rest-short xs h =
     let e : length xs / 128 * 128 ≡ 0 = omega arith in
     rw e
 
--- nothing is left behind one block
+-- nothing is left after one block
 pub rest-block : (xs : List ℕ) → length xs ≡ 128 → rest xs ≡ []
 unfolding rest
 rest-block xs h = drop-of-length-le xs {i = length xs / 128 * 128} (omega arith)

@@ -3,7 +3,7 @@ use Prim.Native.Nat.{ℕ, _<_}
 use mathlib.Core.Path.{_≡_}
 use mathlib.Core.List.{List}
 use lib.ListN.{length, getD}
-use Rattle.padding.proofs.Numbers.{length-hashBytes, hashBytes-bytes}
+use Rattle.sha512_padding.proofs.Numbers.{length-hashBytes, hashBytes-bytes}
 use Rattle.sha512.specs.Message.{sha512}
 
 pub length-sha512 : (m : List ℕ) → length (sha512 m) ≡ 64

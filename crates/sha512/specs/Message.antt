@@ -2,11 +2,11 @@
 use Prim.Native.Nat.{ℕ, _*_, _/_}
 use mathlib.Core.List.{List, _++_}
 use lib.ListN.{length, drop}
-use Rattle.compression.specs.Constants.{initial}
-use Rattle.compression.specs.Blocks.{hashed}
-use Rattle.padding.specs.Padding.{padding, hashBytes}
+use Rattle.sha512_block.specs.Constants.{initial}
+use Rattle.sha512_block.specs.Blocks.{hashed}
+use Rattle.sha512_padding.specs.Padding.{padding, hashBytes}
 
--- the bytes behind the whole blocks
+-- the bytes after the whole blocks
 unfoldable pub rest : List ℕ → List ℕ
 rest m = drop (length m / 128 * 128) m
 

@@ -2,12 +2,12 @@
 use super::Running;
 use super::parts::begin;
 use super::parts::feed;
-use compression::absorb;
-use padding::hash_bytes;
-use padding::pad;
+use sha512_block::absorb;
+use sha512_padding::hash_bytes;
+use sha512_padding::pad;
 ghost use mathlib.Core.Path.{_≡_};
 ghost use Rattle.sha512.specs.Message.{sha512};
-ghost use Rattle.sha512.specs.Parts.{finished};
+ghost use Rattle.sha512.specs.Feeding.{finished};
 
 // The digest of all that was fed. The bytes that wait and the padding make one block or two.
 pub fn finish(state: Running) -> [u8; 64]

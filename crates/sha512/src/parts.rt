@@ -1,8 +1,8 @@
 // A message that comes in parts. The state goes in by value and comes back.
 use super::Running;
-use compression::Hash;
-use compression::absorb;
-use compression::initial_hash;
+use sha512_block::Hash;
+use sha512_block::absorb;
+use sha512_block::initial_hash;
 use std::num::wrapping_add_u64;
 use stretch::copy;
 use stretch::copy_at;
@@ -10,7 +10,7 @@ ghost use mathlib.Core.Path.{_≡_};
 ghost use mathlib.Core.List.{_++_};
 ghost use Prim.Native.Nat.{_+_, _≤_};
 ghost use lib.ListN.{length};
-ghost use Rattle.sha512.specs.Parts.{filled, begun, after, fed};
+ghost use Rattle.sha512.specs.Feeding.{filled, begun, after, fed};
 
 pub fn begin() -> Running
     ensures { λ r. ⌜ r ≡ begun ⌝ }

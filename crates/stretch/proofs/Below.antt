@@ -14,7 +14,8 @@ module _ (f : ℕ → Bool) where
   below-at zero h k l = absurd (not-suc-le-zero l)
   below-at (suc n) h k l =
       by-cases (f n)
-      (λ e. ⊎-elim (λ q. subst (λ (m : ℕ). f m ≡ true) (sym q) e) (λ l′. below-at n (rw e at h) k l′) (eq-or-lt-of-le (le-of-suc-le-suc l)))
+      (λ e. ⊎-elim (λ q. subst (λ (m : ℕ). f m ≡ true) (sym q) e) (λ l′. below-at n (rw e at h) k l′)
+      (eq-or-lt-of-le (le-of-suc-le-suc l)))
       (λ e. cc (rw e at h))
 
   -- one more number

@@ -25,7 +25,8 @@ module _ (p : ℕ → Bool) where
   unfolding every
   every-at [] i h l = absurd (not-suc-le-zero l)
   every-at (x ∷ s) zero h l = by-cases (p x) (λ e. e) (λ e. cc (rw e at h))
-  every-at (x ∷ s) (suc i) h l = by-cases (p x) (λ e. every-at s i (rw e at h) (le-of-suc-le-suc l)) (λ e. cc (rw e at h))
+  every-at (x ∷ s) (suc i) h l =
+      by-cases (p x) (λ e. every-at s i (rw e at h) (le-of-suc-le-suc l)) (λ e. cc (rw e at h))
 
   -- a turn of a loop that has found `so-far` of the bytes before i
   pub every-on : (s : List ℕ) (i : ℕ) (so-far : Bool) → i < length s

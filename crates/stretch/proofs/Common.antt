@@ -30,7 +30,8 @@ pub lcp-le-left : (xs ys : List ℕ) → lcp xs ys ≤ length xs
 unfolding lcp
 lcp-le-left [] ys = omega arith
 lcp-le-left (x ∷ xs) [] = omega arith
-lcp-le-left (x ∷ xs) (y ∷ ys) = by-cases (eqb x y) (λ e. rw e (omega (arith, lcp-le-left xs ys))) (λ e. rw e (omega arith))
+lcp-le-left (x ∷ xs) (y ∷ ys) =
+    by-cases (eqb x y) (λ e. rw e (omega (arith, lcp-le-left xs ys))) (λ e. rw e (omega arith))
 
 pub lcp-le-right : (xs ys : List ℕ) → lcp xs ys ≤ length ys
 lcp-le-right xs ys = rw (lcp-comm xs ys) (lcp-le-left ys xs)
@@ -68,7 +69,8 @@ lcp-within (x ∷ xs) (y ∷ ys) zs h =
     by-cases (eqb x y) (λ e. rw (e, lcp-within xs ys zs (le-of-suc-le-suc (rw e at h)))) (λ e. rw e)
 
 -- and goes on where they don't
-pub lcp-through : (xs ys zs : List ℕ) → length ys ≤ lcp xs ys → lcp xs (ys ++ zs) ≡ length ys + lcp (drop (length ys) xs) zs
+pub lcp-through : (xs ys zs : List ℕ) → length ys ≤ lcp xs ys
+    → lcp xs (ys ++ zs) ≡ length ys + lcp (drop (length ys) xs) zs
 lcp-through xs ys zs h =
     let e : take (length ys) xs ≡ ys = lcp-take xs ys (length ys) h ∙ take-length ys in
     ap (λ (l : List ℕ). lcp l (ys ++ zs)) (sym (take-append-drop (length ys) xs))
@@ -92,13 +94,15 @@ module _ (a b : List ℕ) (i : ℕ) where
   lcp-on n h g e inv =
       let room : n ≤ length (drop i b) = simp length-drop (omega arith) in
       let next : lcp (drop i a) (drop i b) ≡ n + lcp (drop (i + n) a) (drop (i + n) b)
-      = ap (λ (l : List ℕ). lcp l (drop i b)) (sym (take-append-drop n (drop i a)) ∙ ap (λ (l : List ℕ). l ++ drop n (drop i a)) e)
+      = ap (λ (l : List ℕ). lcp l (drop i b))
+      (sym (take-append-drop n (drop i a)) ∙ ap (λ (l : List ℕ). l ++ drop n (drop i a)) e)
       ∙ ap (λ (l : List ℕ). lcp (take n (drop i b) ++ drop n (drop i a)) l) (sym (take-append-drop n (drop i b)))
       ∙ lcp-past (take n (drop i b)) (drop n (drop i a)) (drop n (drop i b))
       ∙ rw (length-take-le n (drop i b) room, drop-drop, drop-drop) in
       omega arith
 
-  pub lcp-here : i < length a → i < length b → (getD a i 0 ≡ getD b i 0 → ⊥) → lcp a b ≡ i + lcp (drop i a) (drop i b) → lcp a b ≡ i
+  pub lcp-here : i < length a → i < length b → (getD a i 0 ≡ getD b i 0 → ⊥) → lcp a b ≡ i + lcp (drop i a) (drop i b)
+      → lcp a b ≡ i
   lcp-here h g n inv = inv ∙ rw (drop-cons a i 0 h, drop-cons b i 0 g, lcp-heads _ _ _ _ n) (add-zero i)
 
   pub lcp-end-left : length a ≤ i → lcp a b ≡ i + lcp (drop i a) (drop i b) → lcp a b ≡ i
@@ -109,5 +113,6 @@ module _ (a b : List ℕ) (i : ℕ) where
   lcp-end-right h inv = inv ∙ rw (drop-of-length-le b {i = i} h, lcp-nil (drop i a)) (add-zero i)
 
 -- the next element alone
-pub take-one : (a b : List ℕ) (i j : ℕ) → i < length a → j < length b → getD a i 0 ≡ getD b j 0 → take 1 (drop i a) ≡ take 1 (drop j b)
+pub take-one : (a b : List ℕ) (i j : ℕ) → i < length a → j < length b → getD a i 0 ≡ getD b j 0
+    → take 1 (drop i a) ≡ take 1 (drop j b)
 take-one a b i j h g e = rw (drop-cons a i 0 h, drop-cons b j 0 g, e)

@@ -26,7 +26,8 @@ module _ (p : ℕ → Bool) where
       (λ e. let h′ : suc (firstOutside p s) ≡ suc (length s) = rw e at h in rw e (firstOutside-all s (omega arith)))
       (λ e. let h′ : 0 ≡ suc (length s) = rw e at h in absurd (omega arith))
 
-  pub firstOutside-past : (xs ys : List ℕ) → every p xs ≡ true → firstOutside p (xs ++ ys) ≡ length xs + firstOutside p ys
+  pub firstOutside-past : (xs ys : List ℕ) → every p xs ≡ true
+      → firstOutside p (xs ++ ys) ≡ length xs + firstOutside p ys
   unfolding firstOutside every
   firstOutside-past [] ys h = sym (zero-add (firstOutside p ys))
   firstOutside-past (x ∷ xs) ys h =
@@ -35,9 +36,11 @@ module _ (p : ℕ → Bool) where
   pub firstOutside-every : (s : List ℕ) → every p s ≡ true → firstOutside p s ≡ length s
   unfolding firstOutside every
   firstOutside-every [] h = refl
-  firstOutside-every (x ∷ s) h = by-cases (p x) (λ e. rw e (ap suc (firstOutside-every s (rw e at h)))) (λ e. cc (rw e at h))
+  firstOutside-every (x ∷ s) h =
+      by-cases (p x) (λ e. rw e (ap suc (firstOutside-every s (rw e at h)))) (λ e. cc (rw e at h))
 
-  pub firstOutside-within : (xs ys : List ℕ) → firstOutside p xs < length xs → firstOutside p (xs ++ ys) ≡ firstOutside p xs
+  pub firstOutside-within : (xs ys : List ℕ) → firstOutside p xs < length xs
+      → firstOutside p (xs ++ ys) ≡ firstOutside p xs
   unfolding firstOutside
   firstOutside-within [] ys h = absurd (not-suc-le-zero h)
   firstOutside-within (x ∷ xs) ys h =
@@ -77,14 +80,20 @@ module _ (p : ℕ → Bool) where
   firstOutside-block s i n h e inv =
       let room : n ≤ length (drop i s) = simp length-drop (omega arith) in
       let next : firstOutside p (drop i s) ≡ n + firstOutside p (drop (i + n) s)
-      = ap (firstOutside p) (sym (take-append-drop n (drop i s))) ∙ firstOutside-past (take n (drop i s)) (drop n (drop i s)) (rw (add-sub-cancel-left i n) at e)
+      = ap (firstOutside p) (sym (take-append-drop n (drop i s)))
+      ∙ firstOutside-past (take n (drop i s)) (drop n (drop i s)) (rw (add-sub-cancel-left i n) at e)
       ∙ rw (length-take-le n (drop i s) room, drop-drop) in
       omega arith
 
   -- and all that is left, as the code lends it
   pub firstOutside-rest : (s : List ℕ) (i : ℕ) → i ≤ length s → every p (take (length s - i) (drop i s)) ≡ true
-      → firstOutside p s ≡ i + firstOutside p (drop i s) → firstOutside p s ≡ length s + firstOutside p (drop (length s) s)
+      → firstOutside p s ≡ i + firstOutside p (drop i s)
+      → firstOutside p s ≡ length s + firstOutside p (drop (length s) s)
   unfolding firstOutside
   firstOutside-rest s i h e inv =
       inv
-      ∙ rw (firstOutside-every (drop i s) (rw (lent-tail s i) at e), length-drop i s, drop-of-length-le s {i = length s} (omega arith)) (omega arith)
+      ∙ rw (
+        firstOutside-every (drop i s) (rw (lent-tail s i) at e),
+        length-drop i s,
+        drop-of-length-le s {i = length s} (omega arith),
+      ) (omega arith)

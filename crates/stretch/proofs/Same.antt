@@ -14,7 +14,8 @@ unfolding same
 same-refl [] = refl
 same-refl (x ∷ a) = rw (eq-eqb x x refl) (same-refl a)
 
-cons-eq : (x y : ℕ) (a b : List ℕ) (t : Bool) → eqb x y ≡ t → (same a b ≡ true → a ≡ b) → cond t (same a b) false ≡ true → x ∷ a ≡ y ∷ b
+cons-eq : (x y : ℕ) (a b : List ℕ) (t : Bool) → eqb x y ≡ t → (same a b ≡ true → a ≡ b)
+    → cond t (same a b) false ≡ true → x ∷ a ≡ y ∷ b
 cons-eq x y a b true e f h = cc (eqb-true x y e, f h)
 cons-eq x y a b false e f h = cc
 

@@ -29,12 +29,14 @@ lcs-grows zs ws xs ys =
     rw (reverse-append zs xs, reverse-append ws ys) (lcp-grows (reverse xs) (reverse ys) (reverse zs) (reverse ws))
 
 -- and it does not matter where both stretches go on past what they share
-pub lcp-apart : (xs ys zs ws : List ℕ) → lcp xs ys < length xs → lcp xs ys < length ys → lcp (xs ++ zs) (ys ++ ws) ≡ lcp xs ys
+pub lcp-apart : (xs ys zs ws : List ℕ) → lcp xs ys < length xs → lcp xs ys < length ys
+    → lcp (xs ++ zs) (ys ++ ws) ≡ lcp xs ys
 lcp-apart xs ys zs ws h g =
     let e : lcp (ys ++ ws) xs ≡ lcp xs ys = lcp-comm (ys ++ ws) xs ∙ lcp-within xs ys ws g in
     lcp-comm (xs ++ zs) (ys ++ ws) ∙ lcp-within (ys ++ ws) xs zs (omega arith) ∙ e
 
-pub lcs-apart : (zs ws xs ys : List ℕ) → lcs xs ys < length xs → lcs xs ys < length ys → lcs (zs ++ xs) (ws ++ ys) ≡ lcs xs ys
+pub lcs-apart : (zs ws xs ys : List ℕ) → lcs xs ys < length xs → lcs xs ys < length ys
+    → lcs (zs ++ xs) (ws ++ ys) ≡ lcs xs ys
 lcs-apart zs ws xs ys h g =
     let e : lcs (ws ++ ys) xs ≡ lcs xs ys = lcs-comm (ws ++ ys) xs ∙ lcs-within xs ys ws g in
     lcs-comm (zs ++ xs) (ws ++ ys) ∙ lcs-within (ws ++ ys) xs zs (omega arith) ∙ e
@@ -46,7 +48,11 @@ module _ (u v : List ℕ) where
       let p = lcp u v in
       let e : lcp u v ≡ p + lcp (drop p u) (drop p v)
       = (λ i. lcp (sym (take-append-drop p u) i) (sym (take-append-drop p v) i))
-      ∙ rw (lcp-take u v p (omega arith), lcp-past (take p v) (drop p u) (drop p v), length-take-le p v (lcp-le-right u v)) in
+      ∙ rw (
+        lcp-take u v p (omega arith),
+        lcp-past (take p v) (drop p u) (drop p v),
+        length-take-le p v (lcp-le-right u v),
+      ) in
       omega arith
 
   pub lcs-less : lcs (take (length u - lcs u v) u) (take (length v - lcs u v) v) ≡ 0
@@ -61,7 +67,8 @@ module _ (u v : List ℕ) where
       omega arith
 
   pub lcs-drop-le : (i : ℕ) → lcs (drop i u) (drop i v) ≤ lcs u v
-  lcs-drop-le i = rw (take-append-drop i u, take-append-drop i v) at (lcs-grows (take i u) (take i v) (drop i u) (drop i v))
+  lcs-drop-le i = rw (take-append-drop i u, take-append-drop i v) at
+      (lcs-grows (take i u) (take i v) (drop i u) (drop i v))
 
 -- stretches that part within the first are not one
 pub same-short : (a b : List ℕ) → lcp a b < length a → same a b ≡ false

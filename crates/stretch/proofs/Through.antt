@@ -1,4 +1,4 @@
--- Parts of a buffer after a write: before it, behind it, and of what was laid.
+-- Parts of a buffer after a write: before it, after it, and of what was laid.
 use Prim.Native.Nat.{ℕ, _+_, _-_, _≤_}
 use native.Mathlib.Omega.{arith}
 use mathlib.Core.Path.{_≡_, _∙_, sym, ap}
@@ -39,5 +39,6 @@ module _ (l : List ℕ) (at : ℕ) (s : List ℕ) (room : at ≤ length l) where
       let rest = s ++ drop (length s) (drop at l) in
       let e : at + j - (at + i) ≡ j - i = omega arith in
       ap (λ (k : ℕ). take k (drop (at + i) (take at l ++ rest))) e
-      ∙ ap (take (j - i)) (sym (drop-drop i at (take at l ++ rest)) ∙ ap (drop i) (drop-at (take at l) rest at (length-take-le at l room)))
+      ∙ ap (take (j - i)) (sym (drop-drop i at (take at l ++ rest))
+      ∙ ap (drop i) (drop-at (take at l) rest at (length-take-le at l room)))
       ∙ part-first s (drop (length s) (drop at l)) i j o g

@@ -8,7 +8,7 @@ use lib.ListN.{length, take, drop}
 unfoldable pub over : List ℕ → ℕ → List ℕ → List ℕ
 over l place s = take place l ++ (s ++ drop (length s) (drop place l))
 
--- s stands in the buffer from a place on, and n is the place behind it
+-- s stands in the buffer from a place on, and n is the place after it
 pub record Wrote (l : List ℕ) (at : ℕ) (s left : List ℕ) (n : ℕ) : Type 0 where
   pub next : n ≡ at + length s
   pub laid : left ≡ over l at s

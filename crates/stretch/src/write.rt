@@ -25,7 +25,7 @@ pub fn copy_at(to: &mut [u8], place: usize, from: &[u8])
     copy(&mut to[place..], from);
 }
 
-// Lays `from` over `to` from `place` on, and answers the place behind it.
+// Lays `from` over `to` from `place` on, and answers the place after it.
 pub fn put(to: &mut [u8], place: usize, from: &[u8]) -> usize
     requires { ⌜ place + length (now from) ≤ length (now to) ⌝ }
     ensures { λ r. ⌜ Wrote (now (to .entry)) place (now (from .entry)) (now (to .exit)) r ⌝ }
@@ -34,7 +34,7 @@ pub fn put(to: &mut [u8], place: usize, from: &[u8]) -> usize
     place + from.len()
 }
 
-// Lays three stretches over `to`, one behind the other, from `place` on, and answers the place behind
+// Lays three stretches over `to`, one after the other, from `place` on, and answers the place after
 // them.
 pub fn put_three(to: &mut [u8], place: usize, a: &[u8], b: &[u8], c: &[u8]) -> usize
     requires { ⌜ place + (length (now a) + (length (now b) + length (now c))) ≤ length (now to) ⌝ }

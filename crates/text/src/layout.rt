@@ -15,23 +15,23 @@ pub const BEFORE_START: [u8; 9] = *b",\"start\":";
 
 pub const BEFORE_DIGEST: [u8; 41] = *b",\"type\":\"SimpleInterval\"},\"sequence_id\":\"";
 
-pub const BEHIND_DIGEST: [u8; 28] = *b"\",\"type\":\"SequenceLocation\"}";
+pub const AFTER_DIGEST: [u8; 28] = *b"\",\"type\":\"SequenceLocation\"}";
 
 pub const BEFORE_LOCATION: [u8; 13] = *b"{\"location\":\"";
 
 pub const BEFORE_SEQUENCE: [u8; 23] = *b"\",\"state\":{\"sequence\":\"";
 
-pub const BEHIND_SEQUENCE: [u8; 42] = *b"\",\"type\":\"SequenceState\"},\"type\":\"Allele\"}";
+pub const AFTER_SEQUENCE: [u8; 42] = *b"\",\"type\":\"SequenceState\"},\"type\":\"Allele\"}";
 
 // The bytes of the words of a location text, and of an allele text.
 pub const LOCATION_WORDS: usize = BEFORE_END.len()
     + BEFORE_START.len()
     + BEFORE_DIGEST.len()
-    + BEHIND_DIGEST.len();
+    + AFTER_DIGEST.len();
 
 pub const ALLELE_WORDS: usize = BEFORE_LOCATION.len()
     + BEFORE_SEQUENCE.len()
-    + BEHIND_SEQUENCE.len();
+    + AFTER_SEQUENCE.len();
 
 // Lays the location text over the front of `out`, and answers how long it is.
 pub fn write_location(out: &mut [u8], start: u64, end: u64, digest: &[u8]) -> usize
@@ -42,7 +42,7 @@ pub fn write_location(out: &mut [u8], start: u64, end: u64, digest: &[u8]) -> us
     let b = put_decimal(out, a, end);
     let c = put(out, b, &BEFORE_START);
     let d = put_decimal(out, c, start);
-    put_three(out, d, &BEFORE_DIGEST, digest, &BEHIND_DIGEST)
+    put_three(out, d, &BEFORE_DIGEST, digest, &AFTER_DIGEST)
 }
 
 // Lays the allele text of a replacement that comes in three stretches over the front of `out`, and
@@ -53,5 +53,5 @@ pub fn write_allele(out: &mut [u8], location: &[u8], a: &[u8], b: &[u8], c: &[u8
 {
     let second = put_three(out, 0, &BEFORE_LOCATION, location, &BEFORE_SEQUENCE);
     let third = put_three(out, second, a, b, c);
-    put(out, third, &BEHIND_SEQUENCE)
+    put(out, third, &AFTER_SEQUENCE)
 }

@@ -1,11 +1,13 @@
--- Texts by words: a word, then what may follow it. How far such a text is read is how far its word is, and then what follows it.
+-- Texts by words: a word, then what may follow it. How far such a text is read is how far its word is, and then what
+-- follows it.
 use Prim.Native.Nat.{ℕ, suc, _+_, _-_, _<_, _≤_}
 use native.Mathlib.Omega.{arith}
 use mathlib.Core.Path.{_≡_, refl, _∙_, sym, ap, subst}
 use mathlib.Core.List.{List, [], _∷_, _++_, append-assoc, append-nil, append-cancel-left}
 use lib.Dec.{ltb}
 use lib.ListN.{length, getD, take, drop, length-append, length-drop, take-append-drop}
-use lib.Seq.{length-take-le, take-all, split-at, append-snoc, take-append-seam, take-append-le, take-take, take-add, take-at}
+use lib.Seq.{length-take-le, take-all, split-at, append-snoc, take-append-seam, take-append-le, take-take, take-add}
+use lib.Seq.{take-at}
 use borrow.Author.Tests.{ltb-true, ltb-false}
 use Rattle.stretch.specs.Part.{part}
 use Rattle.stretch.proofs.Cases.{by-cases}
@@ -37,13 +39,16 @@ pub record Then (Kind : List ℕ → Type 0) (Next : List ℕ → List ℕ → T
   pub follows : Next word rest
   pub joined : text ≡ word ++ rest
 
-pub word-then : {Kind : List ℕ → Type 0} {Next : List ℕ → List ℕ → Type 0} (w v : List ℕ) → Kind w → Next w v → Then Kind Next (w ++ v)
+pub word-then : {Kind : List ℕ → Type 0} {Next : List ℕ → List ℕ → Type 0} (w v : List ℕ) → Kind w → Next w v
+    → Then Kind Next (w ++ v)
 word-then w v k n = record { word = w; rest = v; is-word = k; follows = n; joined = refl }
 
-pub then-is : {Kind : List ℕ → Type 0} {Next : List ℕ → List ℕ → Type 0} {s w v : List ℕ} (t : Then Kind Next s) → t .word ≡ w → t .rest ≡ v → s ≡ w ++ v
+pub then-is : {Kind : List ℕ → Type 0} {Next : List ℕ → List ℕ → Type 0} {s w v : List ℕ} (t : Then Kind Next s)
+    → t .word ≡ w → t .rest ≡ v → s ≡ w ++ v
 then-is t p q = t .joined ∙ (λ i. p i ++ q i)
 
-word-within : {Kind : List ℕ → Type 0} {Next : List ℕ → List ℕ → Type 0} {s : List ℕ} (t : Then Kind Next s) → length (t .word) ≤ length s
+word-within : {Kind : List ℕ → Type 0} {Next : List ℕ → List ℕ → Type 0} {s : List ℕ} (t : Then Kind Next s)
+    → length (t .word) ≤ length s
 word-within t = omega (arith, ap length (t .joined), length-append (t .word) (t .rest))
 
 -- nothing more
@@ -71,18 +76,22 @@ module _ (Kind : List ℕ → Type 0) (Next : List ℕ → List ℕ → Type 0) 
   open-then w k o = record { text = w ++ o .text; is-text = word-then w (o .text) k (o .is-text) }
 
   -- of two words that begin one text the one that is followed is not the shorter
-  not-shorter : Apart Kind Next → (w v w′ v′ : List ℕ) → w ++ v ≡ w′ ++ v′ → Kind w → Next w v → Kind w′ → length w < length w′ → ⊥
+  not-shorter : Apart Kind Next → (w v w′ v′ : List ℕ) → w ++ v ≡ w′ ++ v′ → Kind w → Next w v → Kind w′
+      → length w < length w′ → ⊥
   not-shorter apart w v w′ v′ e k n k′ h =
       let c = getD w′ (length w) 0 in
       let d = drop (suc (length w)) w′ in
-      let split : w′ ≡ w ++ (c ∷ d) = split-at w′ (length w) 0 h ∙ ap (λ (l : List ℕ). l ++ (c ∷ d)) (front-of w v w′ v′ e (omega arith)) in
-      let behind : v ≡ c ∷ (d ++ v′) = append-cancel-left w v (c ∷ (d ++ v′)) (e ∙ ap (λ (l : List ℕ). l ++ v′) split ∙ append-assoc w (c ∷ d) v′) in
+      let split : w′ ≡ w ++ (c ∷ d) = split-at w′ (length w) 0 h
+      ∙ ap (λ (l : List ℕ). l ++ (c ∷ d)) (front-of w v w′ v′ e (omega arith)) in
+      let behind : v ≡ c ∷ (d ++ v′) =
+      append-cancel-left w v (c ∷ (d ++ v′)) (e ∙ ap (λ (l : List ℕ). l ++ v′) split ∙ append-assoc w (c ∷ d) v′) in
       apart w c k
       (record { rest = d; whole = subst Kind (split ∙ sym (append-snoc w c d)) k′ })
       (record { rest = d ++ v′; whole = subst (Next w) behind n })
 
   -- a text is read in one way
-  pub one-way : Apart Kind Next → (w v w′ v′ : List ℕ) → w ++ v ≡ w′ ++ v′ → Kind w → Kind w′ → Next w v → Next w′ v′ → (w ≡ w′) × (v ≡ v′)
+  pub one-way : Apart Kind Next → (w v w′ v′ : List ℕ) → w ++ v ≡ w′ ++ v′ → Kind w → Kind w′ → Next w v → Next w′ v′
+      → (w ≡ w′) × (v ≡ v′)
   one-way apart w v w′ v′ e k k′ n n′ =
       compare (length w) (length w′)
       (λ h. absurd (not-shorter apart w v w′ v′ e k n k′ h))
@@ -95,11 +104,13 @@ module _ (Kind : List ℕ → Type 0) (Next : List ℕ → List ℕ → Type 0) 
     long = length-take-le k s (g .within)
 
     -- a text that agrees with s for long enough has that word
-    same-word : (j : ℕ) → k ≤ j → j ≤ length s → (u w v : List ℕ) → take j s ++ u ≡ w ++ v → Kind w → Next w v → (k < length w → k < j)
+    same-word : (j : ℕ) → k ≤ j → j ≤ length s → (u w v : List ℕ) → take j s ++ u ≡ w ++ v → Kind w → Next w v
+        → (k < length w → k < j)
         → (take k s ≡ w) × (part s k j ++ u ≡ v)
     same-word j h l u w v e kind next f =
         compare (length w) k
-        (λ t. absurd (not-shorter apart w v (take k s) (part s k j ++ u) (sym joined) kind next (g .word) (omega (arith, long))))
+        (λ t. absurd (not-shorter apart w v (take k s) (part s k j ++ u) (sym joined) kind next (g .word)
+        (omega (arith, long))))
         (λ t. absurd (longer t))
         (λ t. append-same (take k s) w (part s k j ++ u) v (omega (arith, long)) joined)
       where
@@ -110,15 +121,18 @@ module _ (Kind : List ℕ → Type 0) (Next : List ℕ → List ℕ → Type 0) 
         longer h′ =
             let less : k < j = f h′ in
             let front : take (suc k) s ≡ take (suc k) w
-            = sym (take-take (suc k) j s (omega arith)) ∙ sym (take-append-le (suc k) (take j s) u (simp (length-take-le j s l) (omega arith)))
+            = sym (take-take (suc k) j s (omega arith))
+            ∙ sym (take-append-le (suc k) (take j s) u (simp (length-take-le j s l) (omega arith)))
             ∙ ap (take (suc k)) e ∙ take-append-le (suc k) w v (omega arith) in
             g .furthest (suc k) (omega arith) (omega arith) (rw front (begins-take Kind w (suc k) kind))
 
     pub goes-only : Then Kind Next s → Next (take k s) (drop k s)
     goes-only t =
-        let met = same-word (length s) (g .within) (omega arith) [] (t .word) (t .rest) (all-front s ∙ t .joined) (t .is-word) (t .follows)
+        let met = same-word (length s) (g .within) (omega arith) [] (t .word) (t .rest) (all-front s ∙ t .joined)
+        (t .is-word) (t .follows)
         (λ h. omega (arith, word-within t)) in
-        let left : drop k s ≡ t .rest = sym (append-nil (drop k s)) ∙ ap (λ (l : List ℕ). l ++ []) (sym (lent-tail s k)) ∙ met .1 in
+        let left : drop k s ≡ t .rest = sym (append-nil (drop k s))
+        ∙ ap (λ (l : List ℕ). l ++ []) (sym (lent-tail s k)) ∙ met .1 in
         rw (met .0, left) (t .follows)
 
     pub goes-longest : (i : ℕ) → Longest (Next (take k s)) (drop k s) i → Longest (Then Kind Next) s (k + i)
@@ -127,12 +141,15 @@ module _ (Kind : List ℕ → Type 0) (Next : List ℕ → List ℕ → Type 0) 
           within = room;
           begins = record {
             rest = f .begins .rest;
-            whole = rw (take-add k i s, append-assoc) (word-then (take k s) (take i (drop k s) ++ f .begins .rest) (g .word) (f .begins .whole));
+            whole = rw (take-add k i s, append-assoc)
+                (word-then (take k s) (take i (drop k s) ++ f .begins .rest) (g .word) (f .begins .whole));
           };
           furthest = λ j h l b.
               let t = b .whole in
-              let met = same-word j (omega arith) l (b .rest) (t .word) (t .rest) (t .joined) (t .is-word) (t .follows) (λ _. omega arith) in
-              f .furthest (j - k) (omega arith) (simp length-drop (omega arith)) (record { rest = b .rest; whole = rw (met .0, met .1) (t .follows) });
+              let met = same-word j (omega arith) l (b .rest) (t .word) (t .rest) (t .joined) (t .is-word) (t .follows)
+              (λ _. omega arith) in
+              f .furthest (j - k) (omega arith) (simp length-drop (omega arith))
+              (record { rest = b .rest; whole = rw (met .0, met .1) (t .follows) });
         }
       where
         room : k + i ≤ length s
@@ -142,22 +159,26 @@ module _ (Kind : List ℕ → Type 0) (Next : List ℕ → List ℕ → Type 0) 
   module _ (s : List ℕ) (k : ℕ) (g : Stops Kind s k) (opens : (w : List ℕ) → Kind w → Open (Next w)) where
     no-word : (u w v : List ℕ) (j : ℕ) → j ≤ length s → take j s ++ u ≡ w ++ v → length w ≤ j → Kind w → ⊥
     no-word u w v j h e l kind =
-        let word : take (length w) s ≡ w = sym (take-take (length w) j s l) ∙ front-of w v (take j s) u (sym e) (simp (length-take-le j s h) l) in
+        let word : take (length w) s ≡ w = sym (take-take (length w) j s l)
+        ∙ front-of w v (take j s) u (sym e) (simp (length-take-le j s h) l) in
         compare k (length w)
-        (λ t. g .longest .furthest (length w) t (omega arith) (record { rest = []; whole = rw (append-nil, word) kind }))
+        (λ t. g .longest .furthest (length w) t (omega arith)
+        (record { rest = []; whole = rw (append-nil, word) kind }))
         (λ t. g .never (length w) (omega arith) (rw word kind))
         (λ t. g .never (length w) (omega arith) (rw word kind))
 
     pub stops-refuses : Refuses (Then Kind Next) s k
     stops-refuses =
         record {
-          other = λ t. no-word [] (t .word) (t .rest) (length s) (omega arith) (all-front s ∙ t .joined) (word-within t) (t .is-word);
+          other = λ t. no-word [] (t .word) (t .rest) (length s) (omega arith) (all-front s ∙ t .joined)
+              (word-within t) (t .is-word);
           longest = record {
             within = g .longest .within;
             begins = let b = g .longest .begins in let o = opens _ (b .whole) in
                 record {
                   rest = b .rest ++ o .text;
-                  whole = rw (← append-assoc (take k s) (b .rest) (o .text)) (word-then (take k s ++ b .rest) (o .text) (b .whole) (o .is-text));
+                  whole = rw (← append-assoc (take k s) (b .rest) (o .text))
+                      (word-then (take k s ++ b .rest) (o .text) (b .whole) (o .is-text));
                 };
             furthest = further;
           };
@@ -169,7 +190,8 @@ module _ (Kind : List ℕ → Type 0) (Next : List ℕ → List ℕ → Type 0) 
             by-cases (ltb (length (t .word)) j)
             (λ q. no-word (b .rest) (t .word) (t .rest) j l (t .joined) (omega (arith, ltb-true)) (t .is-word))
             (λ q. let front : take j s ≡ take j (t .word)
-            = sym (take-at (take j s) (b .rest) j (length-take-le j s l)) ∙ ap (take j) (t .joined) ∙ take-append-le j (t .word) (t .rest) (ltb-false _ _ q) in
+            = sym (take-at (take j s) (b .rest) j (length-take-le j s l)) ∙ ap (take j) (t .joined)
+            ∙ take-append-le j (t .word) (t .rest) (ltb-false _ _ q) in
             g .longest .furthest j h l (rw front (begins-take Kind (t .word) j (t .is-word))))
 
 -- where the end is, nothing more may stand
@@ -180,12 +202,14 @@ done-refuses s h =
       longest = record {
         within = omega arith;
         begins = record { rest = []; whole = refl };
-        furthest = λ j l m b. omega (arith, length-take-le j s m, ap length (b .whole), length-append (take j s) (b .rest));
+        furthest = λ j l m b. omega
+            (arith, length-take-le j s m, ap length (b .whole), length-append (take j s) (b .rest));
       };
     }
 
 -- two kinds of one meaning
-module _ (L M : List ℕ → Type 0) (f : (t : List ℕ) → L t → M t) (g : (t : List ℕ) → M t → L t) (s : List ℕ) (i : ℕ) where
+module _ (L M : List ℕ → Type 0) (f : (t : List ℕ) → L t → M t) (g : (t : List ℕ) → M t → L t) (s : List ℕ)
+    (i : ℕ) where
   pub longest-alike : Longest L s i → Longest M s i
   longest-alike r =
       record {
@@ -198,7 +222,8 @@ module _ (L M : List ℕ → Type 0) (f : (t : List ℕ) → L t → M t) (g : (
   refuses-alike r = record { other = λ t. r .other (g s t); longest = longest-alike (r .longest) }
 
 -- there is one longest prefix
-pub longest-once : (Kind : List ℕ → Type 0) (text : List ℕ) (i j : ℕ) → Longest Kind text i → Longest Kind text j → i ≡ j
+pub longest-once : (Kind : List ℕ → Type 0) (text : List ℕ) (i j : ℕ) → Longest Kind text i → Longest Kind text j
+    → i ≡ j
 longest-once Kind text i j f g =
     compare i j
     (λ h. absurd (f .furthest j h (g .within) (g .begins)))

@@ -5,21 +5,14 @@ use mathlib.Core.Path.{_≡_, refl, _∙_, sym, ap, subst}
 use mathlib.Core.Bool.{false}
 use mathlib.Core.List.{List, [], _∷_, _++_}
 use lib.ListN.{length, getD, replicate, List·getD-append}
-use Rattle.letters.specs.Letters.{residue, digestLength}
+use Rattle.alphabets.specs.Alphabets.{residue, digestLength}
 use Rattle.decimals.specs.Decimal.{decimal}
 use Rattle.decimals.proofs.Reading.{decimal-injective}
 use Rattle.words.specs.Prefix.{Begins}
 use Rattle.words.specs.Vocabulary.{Word, Digest, Residues, DecimalFrom}
 use Rattle.words.proofs.Following.{Then, Apart, Open, word-then, then-is, one-way}
-use Rattle.words.proofs.Vocabulary.{
-  decimal-from,
-  some-digest,
-  no-residues,
-  apart-word,
-  apart-digest,
-  digits-on,
-  residues-on,
-}
+use Rattle.words.proofs.Vocabulary.{decimal-from, some-digest, no-residues, apart-word, apart-digest, digits-on}
+use Rattle.words.proofs.Vocabulary.{residues-on}
 
 -- words of a kind by their values: which values fit, and how they are written
 pub record Sort : Type 1 where
@@ -153,7 +146,8 @@ module _ (w : List ℕ) (nonempty : 0 < length w) where
           let z : _≡_ {A = ℕ} 0 1 = cc (among, next-first (residuesSort most) (λ _. rest) v c n) in
           omega arith
 
-  pub sound-number : (least most : ℕ) (ordered : least ≤ most) → (0x30 ≤ getD w 0 0 → getD w 0 0 ≤ 0x39 → ⊥) → (rest : ℕ → Layout)
+  pub sound-number : (least most : ℕ) (ordered : least ≤ most) → (0x30 ≤ getD w 0 0 → getD w 0 0 ≤ 0x39 → ⊥)
+      → (rest : ℕ → Layout)
       → ((n : ℕ) → Sound (rest n)) → Sound (number least most ordered (λ n. word w (rest n)))
   sound-number least most ordered f rest so = (apart, λ n. sound-word w (rest n) (so n))
     where

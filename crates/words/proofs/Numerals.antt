@@ -43,7 +43,8 @@ module _ (least most : ℕ) (s : List ℕ) (k n : ℕ) (r : Leads most s k n) wh
           begins = begins-nothing least most o;
           furthest = rw h at none-longer;
         };
-        never = λ j g d. omega (arith, decimal-long (d .number), ap length (d .digits), length-take-le j s (omega arith));
+        never = λ j g d. omega
+            (arith, decimal-long (d .number), ap length (d .digits), length-take-le j s (omega arith));
       }
 
   stops-low : 0 < k → n < least → (i : ℕ) → Longest (DecimalFrom least most) (decimal n) i

@@ -21,21 +21,24 @@ module _ (Kind : List ℕ → Type 0) (text : List ℕ) (a : Walk) (inside : a .
         stops = λ t _. absurd (let z : _≡_ {A = ℕ} 0 1 = cc in omega arith);
       }
 
-  pub onward-step : a .on ≡ true → (n : ℕ) (t : Bool) → (t ≡ true → Goes Kind (drop (a .at) text) n) → (t ≡ false → Stops Kind (drop (a .at) text) n)
+  pub onward-step : a .on ≡ true → (n : ℕ) (t : Bool) → (t ≡ true → Goes Kind (drop (a .at) text) n)
+      → (t ≡ false → Stops Kind (drop (a .at) text) n)
       → Onward Kind text a (record { at = a .at + n; on = t })
   onward-step on n t goes stops =
       record {
         forth = omega arith;
         within = by-cases t
             (λ e. let h : n ≤ length (drop (a .at) text) = goes e .within in omega (arith, length-drop (a .at) text))
-            (λ e. let h : n ≤ length (drop (a .at) text) = stops e .longest .within in omega (arith, length-drop (a .at) text));
+            (λ e. let h : n ≤ length (drop (a .at) text) = stops e .longest .within in
+            omega (arith, length-drop (a .at) text));
         stays = λ f. absurd (let z : _≡_ {A = ℕ} 0 1 = cc in omega arith);
         goes = λ _ e. rw (add-sub-cancel-left (a .at) n) (goes e);
         stops = λ _ e. rw (add-sub-cancel-left (a .at) n) (stops e);
       }
 
   -- of a kind that never stops
-  pub onward-goes : a .on ≡ true → (n : ℕ) → Goes Kind (drop (a .at) text) n → Onward Kind text a (record { at = a .at + n; on = true })
+  pub onward-goes : a .on ≡ true → (n : ℕ) → Goes Kind (drop (a .at) text) n
+      → Onward Kind text a (record { at = a .at + n; on = true })
   onward-goes on n g = onward-step on n true (λ _. g) (λ e. absurd (let z : _≡_ {A = ℕ} 0 1 = cc in omega arith))
 
 -- a walk that goes on has gone on before

@@ -16,21 +16,29 @@ use Rattle.words.proofs.Following.{longest-once}
 use Rattle.words.proofs.Onwards.{on-before}
 
 -- whether it goes on or stops, it goes as far as some word begins
-onward-longest : {Kind : List ℕ → Type 0} {text : List ℕ} {a b : Walk} → Onward Kind text a b → a .on ≡ true → Longest Kind (drop (a .at) text) (b .at - a .at)
+onward-longest : {Kind : List ℕ → Type 0} {text : List ℕ} {a b : Walk} → Onward Kind text a b → a .on ≡ true
+    → Longest Kind (drop (a .at) text) (b .at - a .at)
 onward-longest {b = b} o t =
     by-cases (b .on)
     (λ e. let g = o .goes t e in
-    record { within = g .within; begins = record { rest = []; whole = rw append-nil (g .word) }; furthest = g .furthest })
+    record {
+      within = g .within;
+      begins = record { rest = []; whole = rw append-nil (g .word) };
+      furthest =
+          g .furthest;
+    })
     (λ e. o .stops t e .longest)
 
-module _ {Kind : List ℕ → Type 0} {text : List ℕ} {a b₁ b₂ : Walk} (o₁ : Onward Kind text a b₁) (o₂ : Onward Kind text a b₂) where
+module _ {Kind : List ℕ → Type 0} {text : List ℕ} {a b₁ b₂ : Walk} (o₁ : Onward Kind text a b₁)
+    (o₂ : Onward Kind text a b₂) where
   one-place : a .on ≡ true → b₁ .at ≡ b₂ .at
   one-place t = omega (arith, o₁ .forth, o₂ .forth, longest-once Kind _ _ _ (onward-longest o₁ t) (onward-longest o₂ t))
 
   not-both : a .on ≡ true → b₁ .on ≡ true → b₂ .on ≡ false → ⊥
   not-both t e f = o₂ .stops t f .never (b₁ .at - a .at) (omega (arith, one-place t)) (o₁ .goes t e .word)
 
-pub onward-once : (Kind : List ℕ → Type 0) (text : List ℕ) (a b₁ b₂ : Walk) → Onward Kind text a b₁ → Onward Kind text a b₂ → b₁ ≡ b₂
+pub onward-once : (Kind : List ℕ → Type 0) (text : List ℕ) (a b₁ b₂ : Walk) → Onward Kind text a b₁
+    → Onward Kind text a b₂ → b₁ ≡ b₂
 onward-once Kind text a b₁ b₂ o₁ o₂ =
     by-cases (a .on)
     (λ t. λ i. record { at = one-place o₁ o₂ t i; on = on t i })
@@ -53,5 +61,6 @@ counts-once least most text a r₁ r₂ c₁ c₂ = λ i. record { walk = walk i
     number =
         by-cases (r₁ .walk .on)
         (λ e. let d = on-before (c₁ .onward) e in
-        decimal-injective _ _ (sym (c₁ .digits d e) ∙ ap (λ (w : Walk). part text (a .at) (w .at)) walk ∙ c₂ .digits d (rw walk at e)))
+        decimal-injective _ _
+        (sym (c₁ .digits d e) ∙ ap (λ (w : Walk). part text (a .at) (w .at)) walk ∙ c₂ .digits d (rw walk at e)))
         (λ e. c₁ .none e ∙ sym (c₂ .none (rw walk at e)))

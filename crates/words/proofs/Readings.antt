@@ -6,14 +6,15 @@ use mathlib.Core.Path.{_≡_, refl, _∙_, sym, ap}
 use mathlib.Core.Bool.{Bool, true}
 use mathlib.Core.List.{List, _++_}
 use lib.Dec.{ltb}
-use lib.ListN.{length, take, drop, replicate, length-append, length-take, length-drop, length-replicate, take-append-drop}
+use lib.ListN.{length, take, drop, replicate, length-append, length-take, length-drop, length-replicate}
+use lib.ListN.{take-append-drop}
 use lib.Seq.{length-take-le, take-all, take-take}
 use borrow.Author.Tests.{ltb-true, ltb-false}
 use Rattle.stretch.specs.Common.{lcp}
 use Rattle.stretch.proofs.Cases.{by-cases}
 use Rattle.stretch.proofs.Common.{lcp-le-left, lcp-le-right, lcp-take, lcp-past}
 use Rattle.stretch.specs.Class.{every, firstOutside}
-use Rattle.letters.specs.Letters.{residue, base64url, foreign, digestLength}
+use Rattle.alphabets.specs.Alphabets.{residue, base64url, foreign, digestLength}
 use Rattle.stretch.proofs.Class.{every-append, every-front}
 use Rattle.stretch.proofs.Outside.{firstOutside-le, firstOutside-take, firstOutside-max}
 use Rattle.words.specs.Prefix.{Begins}
@@ -21,7 +22,8 @@ use Rattle.words.specs.Vocabulary.{Word, Digest, Residues}
 use Rattle.words.specs.Walk.{Goes, Stops}
 
 -- the first so many bytes from a place on, as lending them shows it
-pub lent-most : (l : List ℕ) (place most : ℕ) → take (place + min most (length l - place) - place) (drop place l) ≡ take most (drop place l)
+pub lent-most : (l : List ℕ) (place most : ℕ)
+    → take (place + min most (length l - place) - place) (drop place l) ≡ take most (drop place l)
 lent-most l place most =
     rw (add-sub-cancel-left place (min most (length l - place)))
     (by-cases (ltb most (length l - place))
@@ -55,7 +57,8 @@ module _ (w s : List ℕ) (n : ℕ) (shared : n ≡ lcp w s) where
           begins = record { rest = drop n w; whole = rw (← lcp-take w s n (omega arith)) (take-append-drop n w) };
           furthest = λ j h g b. omega (arith, begins-word j g b);
         };
-        never = λ j h e. f (omega (arith, ap length e, length-take-le j s (omega (arith, lcp-le-right w s)), lcp-le-left w s));
+        never = λ j h e. f (omega
+            (arith, ap length e, length-take-le j s (omega (arith, lcp-le-right w s)), lcp-le-left w s));
       }
 
 -- bytes of a class, among the first so many

@@ -1,4 +1,5 @@
--- Kinds of words: some word of each, and that they are apart from what follows them, by their length or by the byte that follows.
+-- Kinds of words: some word of each, and that they are apart from what follows them, by their length or by the byte
+-- that follows.
 use Prim.Native.Nat.{ℕ, _+_, _<_, _≤_}
 use native.Mathlib.Omega.{arith}
 use mathlib.Core.Path.{_≡_, refl, _∙_, sym, ap}
@@ -6,7 +7,7 @@ use mathlib.Core.Bool.{true, false}
 use mathlib.Core.List.{List, [], _∷_, _++_}
 use lib.ListN.{length, getD, replicate, length-append}
 use lib.Seq.{append-snoc, getD-at}
-use Rattle.letters.specs.Letters.{residue, base64url, digestLength}
+use Rattle.alphabets.specs.Alphabets.{residue, base64url, digestLength}
 use Rattle.stretch.specs.Class.{every}
 use Rattle.stretch.proofs.Class.{every-at}
 use Rattle.decimals.specs.Decimal.{decimal}
@@ -33,7 +34,8 @@ at-seam : (w r : List ℕ) (c : ℕ) → getD (w ++ (c ∷ []) ++ r) (length w) 
 at-seam w r c = rw append-snoc (getD-at w c r 0 (length w) refl)
 
 -- words of one length
-module _ (Kind : List ℕ → Type 0) (n : ℕ) (long : (w : List ℕ) → Kind w → length w ≡ n) (Next : List ℕ → List ℕ → Type 0) where
+module _ (Kind : List ℕ → Type 0) (n : ℕ) (long : (w : List ℕ) → Kind w → length w ≡ n)
+    (Next : List ℕ → List ℕ → Type 0) where
   pub apart-length : Apart Kind Next
   apart-length w c k b _ = omega (arith, long w k, long _ (b .whole), longer w (b .rest) c)
 
@@ -56,4 +58,5 @@ module _ (w : List ℕ) (c : ℕ) where
   pub residues-on : (most : ℕ) → Begins (Residues most) (w ++ (c ∷ [])) → residue c ≡ true
   residues-on most b =
       ap residue (sym (at-seam w (b .rest) c))
-      ∙ every-at residue (w ++ (c ∷ []) ++ b .rest) (length w) (b .whole .residues) (omega (arith, longer w (b .rest) c))
+      ∙ every-at residue (w ++ (c ∷ []) ++ b .rest) (length w) (b .whole .residues)
+      (omega (arith, longer w (b .rest) c))

@@ -14,35 +14,10 @@ use Rattle.words.specs.declared.Walk.{Walk}
 use Rattle.words.specs.Prefix.{Refuses}
 use Rattle.words.specs.Vocabulary.{Word, Digest, Residues}
 use Rattle.words.specs.Walk.{Onward, Counts}
-use Rattle.words.proofs.Following.{
-  Then,
-  Done,
-  Apart,
-  goes-only,
-  goes-longest,
-  stops-refuses,
-  done-refuses,
-  refuses-alike,
-}
-use Rattle.words.proofs.Layouts.{
-  Sort,
-  wordSort,
-  digestSort,
-  residuesSort,
-  numberSort,
-  Layout,
-  close,
-  then,
-  Values,
-  written,
-  Laid,
-  Next,
-  Sound,
-  laid-then,
-  then-laid,
-  opens,
-  LaidOut,
-}
+use Rattle.words.proofs.Following.{Then, Done, Apart, goes-only, goes-longest, stops-refuses, done-refuses}
+use Rattle.words.proofs.Following.{refuses-alike}
+use Rattle.words.proofs.Layouts.{Sort, wordSort, digestSort, residuesSort, numberSort, Layout, close, then}
+use Rattle.words.proofs.Layouts.{Values, written, Laid, Next, Sound, laid-then, then-laid, opens, LaidOut}
 
 -- a step past a word, and what it says
 pub record Step (s : Sort) (text : List ℕ) (a b : Walk) (v : s .Value) : Type 0 where

@@ -1,4 +1,5 @@
--- Document 01, refusal 8: the length of the longest prefix that begins some accepted text. Texts of one kind are a predicate on lists.
+-- Document 01, refusal 8: the length of the longest prefix that begins some accepted text. Texts of one kind are a
+-- predicate on lists.
 use Prim.Native.Nat.{ℕ, _<_, _≤_}
 use mathlib.Core.List.{List, _++_}
 use lib.ListN.{length, take}

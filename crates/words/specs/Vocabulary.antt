@@ -5,7 +5,7 @@ use mathlib.Core.Bool.{true}
 use mathlib.Core.List.{List}
 use lib.ListN.{length}
 use Rattle.stretch.specs.Class.{every}
-use Rattle.letters.specs.Letters.{residue, base64url, digestLength}
+use Rattle.alphabets.specs.Alphabets.{residue, base64url, digestLength}
 use Rattle.decimals.specs.Decimal.{decimal}
 
 -- this one alone

@@ -1,5 +1,5 @@
 // How a text is read word by word, and refusal 8 once for every text (document 01, "Texts and
-// identifiers"). Which words a text has is said above, in `reading`.
+// identifiers"). Which words a text has is said above, in `text_reader`.
 //
 // specs/Prefix.antt has the longest prefix that begins some accepted text, specs/Vocabulary.antt the
 // words, specs/Walk.antt how a text is read by them.

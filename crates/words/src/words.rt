@@ -3,10 +3,10 @@
 use super::Counted;
 use super::Walk;
 use super::range::longest_reaching;
+use alphabets::DIGEST_LENGTH;
+use alphabets::first_foreign;
+use alphabets::first_outside_base64url;
 use decimals::leading_digits;
-use letters::DIGEST_LENGTH;
-use letters::first_foreign;
-use letters::first_outside_base64url;
 use stretch::common_prefix;
 use stretch::smaller;
 ghost use Prim.Native.Nat.{_≤_};

@@ -13,7 +13,12 @@ same-length : tie.Need-same-length
 same-length c = search needs
 
 returns : tie.Need-returns
-returns c = record { below = _; flat = c .flat-written .ensures; promised = c .before .before .before .allele-identifier .ensures }
+returns c = record {
+  below = _;
+  flat = c .flat-written .ensures;
+  promised =
+      c .before .before .before .allele-identifier .ensures;
+}
 
 pub fv-allele-identifier-spec : {M : Type 1} → statement M
 fv-allele-identifier-spec = tie.close (tie.spec allele-identifier-requires flat-written-requires same-length returns)

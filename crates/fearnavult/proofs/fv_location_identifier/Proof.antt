@@ -13,7 +13,13 @@ same-length : tie.Need-same-length
 same-length c = search needs
 
 returns : tie.Need-returns
-returns c = record { below = _; flat = c .flat-written .ensures; promised = c .before .before .before .location-identifier .ensures }
+returns c = record {
+  below = _;
+  flat = c .flat-written .ensures;
+  promised =
+      c .before .before .before .location-identifier .ensures;
+}
 
 pub fv-location-identifier-spec : {M : Type 1} → statement M
-fv-location-identifier-spec = tie.close (tie.spec location-identifier-requires flat-written-requires same-length returns)
+fv-location-identifier-spec =
+    tie.close (tie.spec location-identifier-requires flat-written-requires same-length returns)

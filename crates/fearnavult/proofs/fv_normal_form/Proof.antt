@@ -13,7 +13,12 @@ same-length : tie.Need-same-length
 same-length c = search needs
 
 returns : tie.Need-returns
-returns c = record { below = _; flat = c .flat-form .ensures; promised = c .before .before .before .normal-form .ensures }
+returns c = record {
+  below = _;
+  flat = c .flat-form .ensures;
+  promised =
+      c .before .before .before .normal-form .ensures;
+}
 
 pub fv-normal-form-spec : {M : Type 1} → statement M
 fv-normal-form-spec = tie.close (tie.spec normal-form-requires flat-form-requires same-length returns)

@@ -13,7 +13,13 @@ same-length : tie.Need-same-length
 same-length c = search needs
 
 returns : tie.Need-returns
-returns c = record { below = _; flat = c .flat-written .ensures; promised = c .before .before .before .sequence-identifier .ensures }
+returns c = record {
+  below = _;
+  flat = c .flat-written .ensures;
+  promised =
+      c .before .before .before .sequence-identifier .ensures;
+}
 
 pub fv-sequence-identifier-spec : {M : Type 1} → statement M
-fv-sequence-identifier-spec = tie.close (tie.spec sequence-identifier-requires flat-written-requires same-length returns)
+fv-sequence-identifier-spec =
+    tie.close (tie.spec sequence-identifier-requires flat-written-requires same-length returns)

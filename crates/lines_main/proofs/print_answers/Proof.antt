@@ -45,8 +45,10 @@ loop-less c = let d = c .before .before .before .before .before in
 
 loop-again : tie.Need-loop-again Inv-loop μ-loop
 loop-again c = let d = c .before .before .before .before .before in
-    let l = d .before .before .before .before in
-    (omega (arith, d .next-step .ensures .reference, d .next-step .ensures .next, l .loop .inv .0), omega (arith, d .next-step .kept .1 .1 .0, l .loop .inv .1))
+    let l = d .before .before .before .before in (
+      omega (arith, d .next-step .ensures .reference, d .next-step .ensures .next, l .loop .inv .0),
+      omega (arith, d .next-step .kept .1 .1 .0, l .loop .inv .1),
+    )
 
 same-length : tie.Need-same-length Inv-loop μ-loop
 same-length c = c .before .before .loop .inv .1

@@ -33,20 +33,23 @@ same-length c = search needs
 
 returns : tie.Need-returns
 returns c =
-    let p = c .before .before .before .before .before .before .before .before .before .before .before in
-    let n = p .before .before .before .before in
-    let j = n .before .before .before .before .before in
-    let s = j .before .before .before .before .before .before .before .before in
+    let c₆ = c .before .before .before .before .before .before in
+    let c₁₀ = c₆ .before .before .before .before in
+    let c₁₅ = c₁₀ .before .before .before .before .before in
+    let c₁₉ = c₁₅ .before .before .before .before in
+    let c₂₄ = c₁₉ .before .before .before .before .before in
+    let c₂₈ = c₂₄ .before .before .before .before in
     rw (
       c .before .before .copy-at .ensures,
-      c .before .before .before .before .before .before .put-number3 .ensures,
-      c .before .before .before .before .before .before .before .before .before .before .put-number2 .ensures,
-      n .put-number .ensures,
-      n .before .before .before .before .put-four2 .ensures,
-      j .before .before .before .before .put-four .ensures,
+      c₆ .put-number3 .ensures,
+      c₁₀ .put-number2 .ensures,
+      c₁₅ .put-number .ensures,
+      c₁₉ .put-four2 .ensures,
+      c₂₄ .put-four .ensures,
     )
-    (header-laid (s .args .image .now) (s .args .residues) (s .args .digest .now) (s .args .records) (s .args .journal) (s .args .pool) _ _
-    (s .pre .0 .0) (j .journal-at .ensures .0) (p .pool-at .ensures .0))
+    (header-laid (c₂₈ .args .image .now) (c₂₈ .args .residues) (c₂₈ .args .digest .now) (c₂₈ .args .records)
+    (c₂₈ .args .journal) (c₂₈ .args .pool) _ _
+    (c₂₈ .pre .0 .0) (c₁₉ .before .journal-at .ensures .0) (c₁₀ .before .pool-at .ensures .0))
 
 pub write-header-spec : {M : Type 1} → statement M
 write-header-spec =

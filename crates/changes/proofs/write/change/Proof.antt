@@ -22,11 +22,13 @@ same-length c = search needs
 returns : tie.Need-returns
 unfolding journalled
 returns c =
+    let c₆ = c .before .before .before .before .before .before in
+    let c₁₀ = c₆ .before .before .before .before in
     rw (
       c .before .before .journal .ensures,
-      c .before .before .before .before .before .before .mark .ensures,
-      c .before .before .before .before .before .before .before .before .read-number2 .ensures .0,
-      c .before .before .before .before .before .before .before .before .before .before .read-number .ensures .0,
+      c₆ .mark .ensures,
+      c₆ .before .before .read-number2 .ensures .0,
+      c₁₀ .read-number .ensures .0,
     )
 
 pub change-spec : {M : Type 1} → statement M

@@ -52,12 +52,14 @@ put-counts-requires c κs = search needs
 
 journal-requires : tie.Need-journal-requires
 journal-requires c κs =
-    let t = c .before .before .before .before .before .before .before .before .before .before .before .before .before .before in
-    let s = t .before .before .before .before .before .before .before .before .before .before .before .before .before .before in
-    let h = s .pre .0 in
-    let p = s .pre .1 .1 in
-    let at = t .before .before .read-number4 .ensures .0 in
-    let count = t .read-number5 .ensures .0 in (
+    let c₇ = c .before .before .before .before .before .before .before in
+    let c₁₁ = c₇ .before .before .before .before in
+    let c₁₆ = c₁₁ .before .before .before .before .before in
+    let c₂₈ = c₁₆ .before .before .before .before .before .before .before .before .before .before .before .before in
+    let h = c₂₈ .pre .0 in
+    let p = c₂₈ .pre .1 .1 in
+    let at = c₁₆ .read-number4 .ensures .0 in
+    let count = c₁₁ .before .before .before .read-number5 .ensures .0 in (
       omega (arith, h .after-header, at),
       omega (arith, p .2, h .journal-limit, count),
       omega (
@@ -68,8 +70,8 @@ journal-requires c κs =
         at,
         count,
         c .before .before .before .put-counts .kept .0,
-        c .before .before .before .before .before .before .before .put-replacement .kept .0,
-        c .before .before .before .before .before .before .before .before .before .before .before .put-record .kept .0,
+        c₇ .put-replacement .kept .0,
+        c₁₁ .put-record .kept .0,
       ),
     )
 
@@ -78,19 +80,25 @@ same-length c = search needs
 
 returns : tie.Need-returns
 returns c =
-    let t = c .before .before .before .before .before .before .before .before .before .before .before .before .before .before .before in
-    let s = t .before .before .before .before .before .before .before .before .before .before .before .before .before .before .before .before in
+    let c₆ = c .before .before .before .before .before .before in
+    let c₁₀ = c₆ .before .before .before .before in
+    let c₁₄ = c₁₀ .before .before .before .before in
+    let c₁₉ = c₁₄ .before .before .before .before .before in
+    let c₂₃ = c₁₉ .before .before .before .before in
+    let c₃₁ = c₂₃ .before .before .before .before .before .before .before .before in
     rw (
       c .before .before .journal .ensures,
-      c .before .before .before .before .before .before .put-counts .ensures,
-      c .before .before .before .before .before .before .before .before .before .before .put-replacement .ensures,
-      c .before .before .before .before .before .before .before .before .before .before .before .before .before .before .put-record .ensures,
+      c₆ .put-counts .ensures,
+      c₁₀ .put-replacement .ensures,
+      c₁₄ .put-record .ensures,
     )
-    (numbered-as (s .args .image .now) (s .args .form) (s .args .a .now) (s .args .b .now) (s .args .c .now) _ _ _ _ _ _ (s .pre .1 .0)
-    (ap (λ (n : ℕ). n + 1) (t .before .before .before .before .before .before .before .before .before .before .read-number .ensures .0))
-    (t .before .before .before .before .before .before .before .before .read-number2 .ensures .0)
-    (t .before .before .before .before .before .before .read-number3 .ensures .0)
-    (t .before .before .before .before .read-number4 .ensures .0) (t .before .before .read-number5 .ensures .0) (t .record-at .ensures .0))
+    (numbered-as (c₃₁ .args .image .now) (c₃₁ .args .form) (c₃₁ .args .a .now) (c₃₁ .args .b .now) (c₃₁ .args .c .now)
+    _ _ _ _ _ _ (c₃₁ .pre .1 .0)
+    (ap (λ (n : ℕ). n + 1) (c₂₃ .before .before .read-number .ensures .0))
+    (c₂₃ .read-number2 .ensures .0)
+    (c₁₉ .before .before .read-number3 .ensures .0)
+    (c₁₉ .read-number4 .ensures .0) (c₁₄ .before .before .before .read-number5 .ensures .0)
+    (c₁₄ .before .record-at .ensures .0))
 
 pub number-form-spec : {M : Type 1} → statement M
 number-form-spec =

@@ -1,4 +1,4 @@
--- One count behind the other.
+-- One count after the other.
 use borrow.Author.Needs.{needs}
 use Rattle.changes.proofs.write.put_counts.Statement.{statement}
 use Rattle.changes.proofs.write.put_counts.Tie as tie
@@ -13,7 +13,10 @@ same-length : tie.Need-same-length
 same-length c = search needs
 
 returns : tie.Need-returns
-returns c = rw (c .before .before .put-number2 .ensures, c .before .before .before .before .before .before .put-number .ensures)
+returns c = rw (
+  c .before .before .put-number2 .ensures,
+  c .before .before .before .before .before .before .put-number .ensures,
+)
 
 pub put-counts-spec : {M : Type 1} → statement M
 put-counts-spec =

@@ -31,14 +31,19 @@ same-length c = search needs
 
 returns : tie.Need-returns
 returns c =
-    let s = c .before .before .before .before .before .before .before .before .before .before .before .before .before .before .before .before .before in
+    let c₆ = c .before .before .before .before .before .before in
+    let c₁₀ = c₆ .before .before .before .before in
+    let c₁₄ = c₁₀ .before .before .before .before in
     rw (
       c .before .before .put-number4 .ensures,
-      c .before .before .before .before .before .before .put-number3 .ensures,
-      c .before .before .before .before .before .before .before .before .before .before .put-number2 .ensures,
-      c .before .before .before .before .before .before .before .before .before .before .before .before .before .before .put-number .ensures,
+      c₆ .put-number3 .ensures,
+      c₁₀ .put-number2 .ensures,
+      c₁₄ .put-number .ensures,
     )
-    (four-put (s .args .image .now) (s .args .at) (s .args .a) (s .args .b) (s .args .c) (s .args .d) (omega (arith, s .pre)))
+    (four-put (c₁₄ .before .before .before .args .image .now) (c₁₄ .before .before .before .args .at)
+    (c₁₄ .before .before .before .args .a) (c₁₄ .before .before .before .args .b)
+    (c₁₄ .before .before .before .args .c) (c₁₄ .before .before .before .args .d)
+    (omega (arith, c₁₄ .before .before .before .pre)))
 
 pub put-four-spec : {M : Type 1} → statement M
 put-four-spec =

@@ -1,4 +1,4 @@
--- Four numbers, and the status behind them.
+-- Four numbers, and the status after them.
 use native.Mathlib.Omega.{arith}
 use mathlib.Core.Path.{refl}
 use mathlib.Core.List.{[], _∷_}

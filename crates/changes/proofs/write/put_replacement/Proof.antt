@@ -25,7 +25,8 @@ returns : tie.Need-returns
 returns c =
     let s = c .before .before .before .before .before .before .before .before in
     rw (c .before .before .put-three .ensures .laid)
-    (over-tail-front (s .args .image .now) (s .args .at) (s .args .a .now ++ (s .args .b .now ++ s .args .c .now)) (simp length-append (s .pre)))
+    (over-tail-front (s .args .image .now) (s .args .at) (s .args .a .now ++ (s .args .b .now ++ s .args .c .now))
+    (simp length-append (s .pre)))
 
 pub put-replacement-spec : {M : Type 1} → statement M
 put-replacement-spec =

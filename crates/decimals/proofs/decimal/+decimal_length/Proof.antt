@@ -23,7 +23,8 @@ below t = and 0 decimal-length-kinds.ps (falls 0 decimal-length-kinds.ps _<_ μ-
 returns : (t : ℕ) → decimal-length-lts.Need-returns (below t, decimal-length.Post) (given t) decimal-length.Post
 returns t c = rw (decimal-below (c .before .args .n) (c .if1 .taken))
 
-decimal-length-requires : (t : ℕ) → decimal-length-lts.Need-decimal-length-requires (below t, decimal-length.Post) (given t) decimal-length.Post
+decimal-length-requires : (t : ℕ)
+    → decimal-length-lts.Need-decimal-length-requires (below t, decimal-length.Post) (given t) decimal-length.Post
 decimal-length-requires t c κs = (omega (arith, c .before .pre .0), tt)
 
 add-result : (t : ℕ) → decimal-length-lts.Need-add-result (below t, decimal-length.Post) (given t) decimal-length.Post
@@ -37,4 +38,5 @@ returns-2 t c = let n = c .before .before .args .n in
 pub +decimal-length-spec : {M : Type 1} → statement M
 +decimal-length-spec =
     close μ-decimal-length
-    (λ t. decimal-length-lts.spec (below t, decimal-length.Post) (given t) decimal-length.Post (returns t) (decimal-length-requires t) (add-result t) (returns-2 t))
+    (λ t. decimal-length-lts.spec (below t, decimal-length.Post) (given t) decimal-length.Post (returns t)
+    (decimal-length-requires t) (add-result t) (returns-2 t))

@@ -1,7 +1,7 @@
 -- A decimal in a tail that comes back.
 use native.Mathlib.Omega.{arith}
 use borrow.Author.Needs.{needs}
-use Rattle.stretch.proofs.Wrote.{wrote}
+use Rattle.stretch.proofs.Wrote.{over-wrote}
 use Rattle.stretch.proofs.Over.{over-tail-front}
 use Rattle.decimals.proofs.decimal.put_decimal.Statement.{statement}
 use Rattle.decimals.proofs.decimal.put_decimal.Tie as tie
@@ -27,7 +27,8 @@ same-length c = search needs
 returns : tie.Need-returns
 returns c = let p = c .before .before in
     let s = p .before .before .before in
-    wrote (s .args .out .now) (s .args .place) _ _ _ (s .pre) (omega (arith, p .write-decimal .ensures .0)) (rw (p .write-decimal .ensures .1) (over-tail-front _ _ _ (s .pre)))
+    over-wrote (s .args .out .now) (s .args .place) _ _ _ (s .pre) (omega (arith, p .write-decimal .ensures .0))
+    (rw (p .write-decimal .ensures .1) (over-tail-front _ _ _ (s .pre)))
 
 pub put-decimal-spec : {M : Type 1} → statement M
 put-decimal-spec =

@@ -22,7 +22,9 @@ shared-slice-read-if1 : tie.Need-shared-slice-read-if1 Inv-loop μ-loop
 shared-slice-read-if1 c = search needs
 
 returns : tie.Need-returns Inv-loop μ-loop
-returns c = let l = c .before .before .before in sym (l .loop .inv ∙ next-here (l .before .args .byte) (l .before .args .s .now) (l .loop .i) (omega arith) (c .if1 .taken))
+returns c = let l = c .before .before .before in
+    sym (l .loop .inv ∙ next-here (l .before .args .byte) (l .before .args .s .now) (l .loop .i) (omega arith)
+    (c .if1 .taken))
 
 add-i : tie.Need-add-i Inv-loop μ-loop
 add-i c = omega arith
@@ -31,10 +33,12 @@ loop-less : tie.Need-loop-less Inv-loop μ-loop
 loop-less c = omega arith
 
 loop-again : tie.Need-loop-again Inv-loop μ-loop
-loop-again c = let l = c .before .before .before in l .loop .inv ∙ next-on (l .before .args .byte) (l .before .args .s .now) (l .loop .i) (omega arith) (c .if1 .left)
+loop-again c = let l = c .before .before .before in
+    l .loop .inv ∙ next-on (l .before .args .byte) (l .before .args .s .now) (l .loop .i) (omega arith) (c .if1 .left)
 
 returns-2 : tie.Need-returns-2 Inv-loop μ-loop
-returns-2 c = let l = c .before in sym (l .loop .inv ∙ next-end (l .before .args .byte) (l .before .args .s .now) (l .loop .i) (omega arith))
+returns-2 c = let l = c .before in
+    sym (l .loop .inv ∙ next-end (l .before .args .byte) (l .before .args .s .now) (l .loop .i) (omega arith))
 
 pub next-spec : {M : Type 1} → statement M
 next-spec =

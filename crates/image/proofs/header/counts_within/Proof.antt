@@ -28,16 +28,18 @@ read-number-requires-6 c κs = search needs
 returns : tie.Need-returns
 unfolding countsWithin
 returns c =
-    let b = c .before .before .before .before .before .before .before .args .image .now in
+    let c₄ = c .before .before .before .before in
+    let b = c₄ .before .before .before .args .image .now in
     rw (
-      c .before .before .before .before .before .read-number .ensures .0,
-      c .before .before .before .before .read-number2 .ensures .0,
+      c₄ .before .read-number .ensures .0,
+      c₄ .read-number2 .ensures .0,
       c .before .before .before .read-number3 .ensures .0,
       c .before .before .read-number4 .ensures .0,
       c .before .read-number5 .ensures .0,
       c .read-number6 .ensures .0,
     )
-    (all-three (leb (issued b) (recordCapacity b)) (leb (journalCount b) (journalCapacity b)) (leb (poolUsed b) (poolCapacity b)))
+    (all-three (leb (issued b) (recordCapacity b)) (leb (journalCount b) (journalCapacity b))
+    (leb (poolUsed b) (poolCapacity b)))
 
 pub counts-within-spec : {M : Type 1} → statement M
 counts-within-spec =

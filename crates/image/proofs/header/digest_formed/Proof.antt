@@ -2,7 +2,7 @@
 use borrow.Author.Needs.{needs}
 use native.Mathlib.Omega.{arith}
 use Rattle.stretch.proofs.Interval.{length-part}
-use Rattle.letters.specs.Letters.{base64url}
+use Rattle.alphabets.specs.Alphabets.{base64url}
 use Rattle.image.specs.Fields.{headerSize, digestPlace, sequenceDigest}
 use Rattle.image.proofs.Tests.{outside-end}
 use Rattle.image.proofs.header.digest_formed.Statement.{statement}

@@ -2,7 +2,8 @@
 use borrow.Author.Needs.{needs}
 use lib.Dec.{leb}
 use Rattle.refusal.specs.Limits.{referenceLimit}
-use Rattle.image.specs.Fields.{countLimit, poolLimit, recordCapacity, journalCapacity, poolCapacity, referenceLength}
+use Rattle.image.specs.Fields.{countLimit, poolLimit, recordCapacity, journalCapacity, poolCapacity}
+use Rattle.image.specs.Fields.{referenceLength}
 use Rattle.image.specs.Formed.{withinLimits}
 use Rattle.image.proofs.Tests.{all-four}
 use Rattle.image.proofs.header.within_limits.Statement.{statement}
@@ -30,7 +31,8 @@ returns c =
       c .before .read-number3 .ensures .0,
       c .read-number4 .ensures .0,
     )
-    (all-four (leb (recordCapacity b) countLimit) (leb (journalCapacity b) countLimit) (leb (poolCapacity b) poolLimit) (leb (referenceLength b) referenceLimit))
+    (all-four (leb (recordCapacity b) countLimit) (leb (journalCapacity b) countLimit) (leb (poolCapacity b) poolLimit)
+    (leb (referenceLength b) referenceLimit))
 
 pub within-limits-spec : {M : Type 1} → statement M
 within-limits-spec =

@@ -8,7 +8,7 @@ use lib.ListN.{length}
 use borrow.Author.Tests.{eq-eqb, ne-eqb}
 use Rattle.stretch.specs.Part.{part}
 use Rattle.stretch.proofs.Interval.{length-part}
-use Rattle.letters.specs.Letters.{residue}
+use Rattle.alphabets.specs.Alphabets.{residue}
 use Rattle.image.specs.Fields.{poolOffset, poolUsed}
 use Rattle.image.proofs.Tests.{outside-end}
 use Rattle.image.proofs.records.pool_formed.Statement.{statement}
@@ -44,9 +44,12 @@ returns-2 c =
     let b = s .args .image .now in
     let n = s .args .letters in
     let at = poolOffset b in
-    let used : n ≡ poolUsed b = c .before .before .before .if1 .left ∙ c .before .before .before .before .read-number .ensures .0 in
-    let long : length (part b at (at + n)) ≡ n = length-part b at (at + n) (omega arith) (omega (arith, s .pre)) ∙ add-sub-cancel-left at n in
-    rw (eq-eqb _ _ used, c .first-foreign .ensures, c .before .before .read-number2 .ensures .0) (outside-end residue (part b at (at + n)) n long)
+    let used : n ≡ poolUsed b = c .before .before .before .if1 .left
+    ∙ c .before .before .before .before .read-number .ensures .0 in
+    let long : length (part b at (at + n)) ≡ n = length-part b at (at + n) (omega arith) (omega (arith, s .pre))
+    ∙ add-sub-cancel-left at n in
+    rw (eq-eqb _ _ used, c .first-foreign .ensures, c .before .before .read-number2 .ensures .0)
+    (outside-end residue (part b at (at + n)) n long)
 
 pub pool-formed-spec : {M : Type 1} → statement M
 pool-formed-spec =

@@ -17,7 +17,8 @@ use Rattle.image.proofs.records.records_formed.Tie as tie
 
 abbrev Inv-loop : tie.InvT-loop
 Inv-loop image issued reference letters₀ passed₀ letters passed =
-    (passed ≤ issued) × (letters ≡ lengths image passed) × (letters ≤ 2 ^ 32 * passed) × (below (placed image) passed ≡ true)
+    (passed ≤ issued) × (letters ≡ lengths image passed) × (letters ≤ 2 ^ 32 * passed)
+    × (below (placed image) passed ≡ true)
 
 abbrev μ-loop : tie.MeasureT-loop
 μ-loop image issued reference letters₀ passed₀ letters passed = issued - passed
@@ -51,9 +52,11 @@ returns : tie.Need-returns Inv-loop μ-loop
 returns c =
     let l = c .before .before .before .before in
     let b = l .before .before .before .before .args .image .now in
-    let tested = placed-at b (l .loop .passed) _ _ _ (c .before .before .record-at .ensures .0) (l .before .read-number2 .ensures .0) (l .loop .inv .1) in
+    let tested = placed-at b (l .loop .passed) _ _ _ (c .before .before .record-at .ensures .0)
+    (l .before .read-number2 .ensures .0) (l .loop .inv .1) in
     let count = l .before .before .read-number .ensures .0 in
-    sym (records-bad b (l .loop .passed) (omega arith) (sym tested ∙ sym (c .before .record-placed .ensures) ∙ not-true _ (c .if1 .taken)))
+    sym (records-bad b (l .loop .passed) (omega arith)
+    (sym tested ∙ sym (c .before .record-placed .ensures) ∙ not-true _ (c .if1 .taken)))
 
 add-read-number : tie.Need-add-read-number Inv-loop μ-loop
 add-read-number c = search needs
@@ -82,7 +85,8 @@ loop-again c =
     let b = l .before .before .before .before .args .image .now in
     let place = c .before .before .before .record-at .ensures .0 in
     let tested = placed-at b (l .loop .passed) _ _ _ place (l .before .read-number2 .ensures .0) (l .loop .inv .1) in
-    let good : placed b (l .loop .passed) ≡ true = sym tested ∙ sym (c .before .before .record-placed .ensures) ∙ not-false _ (c .before .if1 .left) in (
+    let good : placed b (l .loop .passed) ≡ true = sym tested ∙ sym (c .before .before .record-placed .ensures)
+    ∙ not-false _ (c .before .if1 .left) in (
       omega arith,
       rw (c .read-number3 .ensures .0) (lengths-next b (l .loop .passed) _ _ place (l .loop .inv .1)),
       omega arith,
@@ -97,7 +101,8 @@ returns-2 c =
     let l = c .before .before in
     let b = l .before .before .before .before .args .image .now in
     let all-passed : l .loop .passed ≡ issued b = omega (arith, l .before .before .read-number .ensures .0) in
-    c .pool-formed .ensures ∙ records-end b _ (rw (← all-passed) (l .loop .inv .1)) (rw (← all-passed) (l .loop .inv .3))
+    c .pool-formed .ensures
+    ∙ records-end b _ (rw (← all-passed) (l .loop .inv .1)) (rw (← all-passed) (l .loop .inv .3))
 
 pub records-formed-spec : {M : Type 1} → statement M
 records-formed-spec =

@@ -1,9 +1,9 @@
--- The line ends within the input, behind the reference.
+-- The line ends within the input, after the reference.
 use native.Mathlib.Omega.{arith}
 use mathlib.Core.Path.{refl}
 use borrow.Author.Needs.{needs}
 use Rattle.fields.proofs.Cutting.{next-le}
-use Rattle.lines.proofs.ByLine.{ready-room, steps}
+use Rattle.lines.proofs.ByLine.{ready-room, next-steps}
 use Rattle.lines.proofs.walk.next_step.Statement.{statement}
 use Rattle.lines.proofs.walk.next_step.Tie as tie
 
@@ -27,7 +27,11 @@ part-answer-start-2 c = search needs
 
 part-answer-end-2 : tie.Need-part-answer-end-2
 part-answer-end-2 c = let s = c .before .before .before .before in
-    omega (arith, c .before .line-end .ensures, next-le 10 (s .args .input .now) (s .args .step .next) (omega (arith, s .pre .left)))
+    omega (
+      arith,
+      c .before .line-end .ensures,
+      next-le 10 (s .args .input .now) (s .args .step .next) (omega (arith, s .pre .left)),
+    )
 
 answer-requires : tie.Need-answer-requires
 answer-requires c κs = let e = c .before .before .before in
@@ -37,7 +41,12 @@ answer-requires c κs = let e = c .before .before .before in
 add-t9 : tie.Need-add-t9
 add-t9 c = let e = c .before .before .before .before .before .before in
     let s = e .before .before .before in
-    omega (arith, e .line-end .ensures, next-le 10 (s .args .input .now) (s .args .step .next) (omega (arith, s .pre .left)), s .pre .room)
+    omega (
+      arith,
+      e .line-end .ensures,
+      next-le 10 (s .args .input .now) (s .args .step .next) (omega (arith, s .pre .left)),
+      s .pre .room,
+    )
 
 same-length : tie.Need-same-length
 same-length c = search needs
@@ -45,7 +54,8 @@ same-length c = search needs
 returns : tie.Need-returns
 returns c = let e = c .before .before .before .before .before .before in
     let s = e .before .before .before in
-    steps (s .args .input .now) (s .args .step) _ _ _ _ (s .pre .left) (e .line-end .ensures) refl refl (c .before .before .answer .ensures)
+    next-steps (s .args .input .now) (s .args .step) _ _ _ _ (s .pre .left) (e .line-end .ensures) refl refl
+    (c .before .before .answer .ensures)
 
 pub next-step-spec : {M : Type 1} → statement M
 next-step-spec =

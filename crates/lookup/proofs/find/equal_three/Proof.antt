@@ -44,7 +44,11 @@ returns-2 c =
     let s = k .before .before .before .before .before .before .before in
     let l = s .args in
     rw (same-three (l .s .now) (l .a .now) (l .b .now) (l .c .now) (s .pre))
-    (rw (sym (k .before .equal .ensures) ∙ not-false _ (k .if1 .left), sym (c .before .equal2 .ensures) ∙ not-true _ (c .if2 .taken)))
+    (rw (
+      sym (k .before .equal .ensures) ∙ not-false _ (k .if1 .left),
+      sym (c .before .equal2 .ensures)
+          ∙ not-true _ (c .if2 .taken),
+    ))
 
 sub-equal-2 : tie.Need-sub-equal-2
 sub-equal-2 c = search needs
@@ -65,7 +69,11 @@ returns-3 c =
     let s = k .before .before .before .before .before .before .before in
     let l = s .args in
     rw (same-three (l .s .now) (l .a .now) (l .b .now) (l .c .now) (s .pre))
-    (rw (sym (k .before .equal .ensures) ∙ not-false _ (k .if1 .left), sym (m .before .equal2 .ensures) ∙ not-false _ (m .if2 .left)) (c .equal3 .ensures))
+    (rw (
+      sym (k .before .equal .ensures) ∙ not-false _ (k .if1 .left),
+      sym (m .before .equal2 .ensures)
+          ∙ not-false _ (m .if2 .left),
+    ) (c .equal3 .ensures))
 
 pub equal-three-spec : {M : Type 1} → statement M
 equal-three-spec =

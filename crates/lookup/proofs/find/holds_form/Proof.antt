@@ -19,7 +19,9 @@ holds-replacement-requires c κs = search needs
 returns-2 : tie.Need-returns-2
 returns-2 c =
     let k = c .before in
-    sym (holds-steps _ _ _ _ ∙ rw (sym (k .before .holds-numbers .ensures) ∙ not-false _ (k .if1 .left)) (sym (c .holds-replacement .ensures)))
+    sym (holds-steps _ _ _ _
+    ∙ rw (sym (k .before .holds-numbers .ensures) ∙ not-false _ (k .if1 .left))
+    (sym (c .holds-replacement .ensures)))
 
 pub holds-form-spec : {M : Type 1} → statement M
 holds-form-spec =

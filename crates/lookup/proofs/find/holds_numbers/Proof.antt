@@ -20,7 +20,11 @@ read-number-requires c κs =
     omega (arith, c .record-at .ensures .0, issued-inside _ (s .pre .0) _ (s .pre .1))
 
 returns : tie.Need-returns
-returns c = rw (← c .before .before .record-at .ensures .0, ← c .before .read-number .ensures .0, ne-eqb _ _ (c .if1 .taken))
+returns c = rw (
+  ← c .before .before .record-at .ensures .0,
+  ← c .before .read-number .ensures .0,
+  ne-eqb _ _ (c .if1 .taken),
+)
 
 read-number-requires-2 : tie.Need-read-number-requires-2
 read-number-requires-2 c κs =
@@ -48,7 +52,8 @@ returns-3 c =
     let l = c .before in
     let k = l .before .before in
     rw (← k .before .before .record-at .ensures .0, ← k .before .read-number .ensures .0, eq-eqb _ _ (k .if1 .left))
-    (rw (← l .before .read-number2 .ensures .0, eq-eqb _ _ (l .if2 .left), ← c .read-number3 .ensures .0) (sym (all-one _)))
+    (rw (← l .before .read-number2 .ensures .0, eq-eqb _ _ (l .if2 .left), ← c .read-number3 .ensures .0)
+    (sym (all-one _)))
 
 pub holds-numbers-spec : {M : Type 1} → statement M
 holds-numbers-spec =

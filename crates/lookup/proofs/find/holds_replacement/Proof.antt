@@ -25,7 +25,8 @@ returns c =
     let s = c .before .before .before .before .before .before .before in
     let k = c .before in
     sym (replacement-apart _ (s .pre .1 .0) _ (s .pre .1 .1 .0) _
-    (rw (← k .before .record-at .ensures .0, ← k .read-number .ensures .0) (simp length-append (λ e. c .if1 .taken (e ∙ sym (s .pre .1 .1 .1))))))
+    (rw (← k .before .record-at .ensures .0, ← k .read-number .ensures .0)
+    (simp length-append (λ e. c .if1 .taken (e ∙ sym (s .pre .1 .1 .1))))))
 
 read-number-requires-2 : tie.Need-read-number-requires-2
 read-number-requires-2 c κs = search needs
@@ -56,7 +57,8 @@ part-equal-three-end c =
     let k = c .before .before .before .before in
     let s = k .before .before .before .before .before in
     let inside = replacement-inside (s .args .image .now) (s .pre .1 .0) (s .args .number) (s .pre .1 .1 .0) in
-    let read = rw (← c .before .before .before .read-number .ensures .0) at (rw (← k .record-at .ensures .0) at inside) in
+    let read = rw (← c .before .before .before .read-number .ensures .0) at
+    (rw (← k .record-at .ensures .0) at inside) in
     omega (arith, rw (← c .before .read-number2 .ensures .0, ← c .read-number3 .ensures .0) at read)
 
 equal-three-requires : tie.Need-equal-three-requires

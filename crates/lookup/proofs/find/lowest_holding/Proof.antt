@@ -10,7 +10,8 @@ use Rattle.lookup.proofs.find.lowest_holding.Statement.{statement}
 use Rattle.lookup.proofs.find.lowest_holding.Tie as tie
 
 abbrev Inv-loop : tie.InvT-loop
-Inv-loop image status form a b c issued number₀ number = (number ≤ issued) × (lowest (holds image status (asked form a b c)) number ≡ 0)
+Inv-loop image status form a b c issued number₀ number = (number ≤ issued)
+    × (lowest (holds image status (asked form a b c)) number ≡ 0)
 
 abbrev μ-loop : tie.MeasureT-loop
 μ-loop image status form a b c issued number₀ number = issued - number
@@ -44,8 +45,11 @@ loop-less c = search needs
 
 loop-again : tie.Need-loop-again Inv-loop μ-loop
 loop-again c =
-    let l = c .before .before .before in
-    (omega arith, lowest-next _ (l .loop .number) (l .loop .inv .1) (sym (c .before .holds-form .ensures) ∙ c .if1 .left))
+    let l = c .before .before .before in (
+      omega arith,
+      lowest-next _ (l .loop .number) (l .loop .inv .1)
+          (sym (c .before .holds-form .ensures) ∙ c .if1 .left),
+    )
 
 returns-2 : tie.Need-returns-2 Inv-loop μ-loop
 unfolding lowestHolding

@@ -1,4 +1,4 @@
--- The test, and the count behind it.
+-- The test, and the count after it.
 use native.Mathlib.Omega.{arith}
 use mathlib.Core.Path.{refl, _∙_, sym}
 use borrow.Author.Tests.{not-true, not-false}
@@ -21,7 +21,8 @@ same-length c = search needs
 
 returns : tie.Need-returns
 unfolding Seals
-returns c = keeps-refused _ _ _ _ _ _ (rw (c .refuse .ensures, sym (c .before .before .well-formed .ensures) ∙ not-true _ (c .before .if1 .taken)))
+returns c = keeps-refused _ _ _ _ _ _
+    (rw (c .refuse .ensures, sym (c .before .before .well-formed .ensures) ∙ not-true _ (c .before .if1 .taken)))
 
 put-number-requires : tie.Need-put-number-requires
 put-number-requires c κs =
@@ -33,8 +34,9 @@ same-length-2 c = search needs
 returns-2 : tie.Need-returns-2
 unfolding Seals sealed
 returns-2 c =
-    keeps-accepted _ _ _ _ _ _ _ (rw (sym (c .before .before .before .before .before .well-formed .ensures) ∙ not-false _
-    (c .before .before .before .before .if1 .left))) refl (c .before .before .put-number .ensures)
+    let c₄ = c .before .before .before .before in
+    keeps-accepted _ _ _ _ _ _ _ (rw (sym (c₄ .before .well-formed .ensures) ∙ not-false _
+    (c₄ .if1 .left))) refl (c .before .before .put-number .ensures)
 
 pub seal-spec : {M : Type 1} → statement M
 seal-spec =

@@ -4,10 +4,10 @@ use borrow.Author.Needs.{needs}
 use Rattle.refusal.specs.Verdict.{verdict}
 use Rattle.refusal.proofs.Verdict.{outcome-accepted, outcome-refused}
 use Rattle.refusal.proofs.Keeps.{keeps-refused, keeps-accepted}
-use Rattle.image.proofs.WellFormed.{formed}
+use Rattle.image.proofs.WellFormed.{wellFormed-formed}
 use Rattle.register.specs.declared.Undone.the-variants.{Number}
 use Rattle.register.specs.Calls.{undoGrounds, Undoes}
-use Rattle.register.proofs.Accepted.{undoable}
+use Rattle.register.proofs.Accepted.{accepted-undoable}
 use Rattle.register.proofs.undoing.undo.Statement.{statement}
 use Rattle.register.proofs.undoing.undo.Tie as tie
 
@@ -20,8 +20,8 @@ enum-told c = search needs
 undo-latest-requires : tie.Need-undo-latest-requires
 undo-latest-requires c κs =
     let e = sym (c .before .enum-told .given .1) ∙ c .before .before .before .check-undo .ensures in
-    let u = undoable _ (outcome-accepted (verdict (undoGrounds _)) e) in
-    (formed _ (u .formed) .header, (u .formed, u .some))
+    let u = accepted-undoable _ (outcome-accepted (verdict (undoGrounds _)) e) in
+    (wellFormed-formed _ (u .formed) .header, (u .formed, u .some))
 
 enum-known-why : tie.Need-enum-known-why
 enum-known-why c = search needs

@@ -56,18 +56,20 @@ same-length c = search needs
 
 returns : tie.Need-returns
 returns c =
-    let r = c .before .before .before .before .before .before .before .before .before .before .before in
-    let t = r .before .before .before .before in
-    let s = t .before .before .before in
-    let undone = latest-undone _ (s .pre .1 .0) _ _ _ (t .read-number .ensures .0) (s .pre .1 .1)
-    (r .before .before .read-number2 .ensures .0) (r .read-number3 .ensures .0) in (
-      latest-read _ (s .pre .1 .0) _ _ _ (t .read-number .ensures .0) (s .pre .1 .1)
-          (r .before .before .read-number2 .ensures .0) (r .read-number3 .ensures .0),
+    let c₆ = c .before .before .before .before .before .before in
+    let c₁₁ = c₆ .before .before .before .before .before in
+    let c₁₅ = c₁₁ .before .before .before .before in
+    let undone = latest-undone _ (c₁₅ .before .before .before .pre .1 .0) _ _ _ (c₁₅ .read-number .ensures .0)
+    (c₁₅ .before .before .before .pre .1 .1)
+    (c₁₁ .before .before .read-number2 .ensures .0) (c₁₁ .read-number3 .ensures .0) in (
+      latest-read _ (c₁₅ .before .before .before .pre .1 .0) _ _ _ (c₁₅ .read-number .ensures .0)
+          (c₁₅ .before .before .before .pre .1 .1)
+          (c₁₁ .before .before .read-number2 .ensures .0) (c₁₁ .read-number3 .ensures .0),
       rw (
         c .before .before .put-number .ensures,
-        c .before .before .before .before .before .before .mark .ensures,
-        c .before .before .before .before .before .before .before .flipped .ensures,
-        c .before .before .before .before .before .before .before .before .before .status-of .ensures,
+        c₆ .mark .ensures,
+        c₆ .before .flipped .ensures,
+        c₆ .before .before .before .status-of .ensures,
       )
           undone,
     )

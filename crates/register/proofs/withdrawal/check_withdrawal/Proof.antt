@@ -3,7 +3,7 @@ use native.Mathlib.Omega.{arith}
 use mathlib.Core.Path.{_∙_, sym}
 use borrow.Author.Needs.{needs}
 use borrow.Author.Tests.{not-true, not-false, eq-eqb, ne-eqb, lt-ltb, le-ltb, le-leb, lt-leb}
-use Rattle.image.proofs.WellFormed.{formed}
+use Rattle.image.proofs.WellFormed.{wellFormed-formed}
 use Rattle.register.specs.Calls.{withdrawalGrounds}
 use Rattle.register.proofs.Accepted.{header-room}
 use Rattle.register.proofs.withdrawal.check_withdrawal.Statement.{statement}
@@ -31,7 +31,12 @@ unfolding withdrawalGrounds
 returns-2 c =
     let t = c .before .before .before in
     let formed = sym (t .before .well-formed .ensures) ∙ not-false _ (t .if1 .left) in
-    rw (c .refuse2 .ensures, ← c .before .before .read-number .ensures .0, formed, eq-eqb _ _ (c .before .if2 .taken))
+    rw (
+      c .refuse2 .ensures,
+      ← c .before .before .read-number .ensures .0,
+      wellFormed-formed,
+      eq-eqb _ _ (c .before .if2 .taken),
+    )
 
 refuse-requires-3 : tie.Need-refuse-requires-3
 refuse-requires-3 c κs = search needs
@@ -41,13 +46,13 @@ unfolding withdrawalGrounds
 returns-3 c =
     let t = c .before .before .before .before in
     let formed = sym (t .before .well-formed .ensures) ∙ not-false _ (t .if1 .left) in
-    rw (c .refuse3 .ensures, ← c .before .before .before .read-number .ensures .0, formed)
+    rw (c .refuse3 .ensures, ← c .before .before .before .read-number .ensures .0, wellFormed-formed)
     (rw (ne-eqb _ _ (c .before .before .if2 .left), lt-ltb _ _ (c .before .if3 .taken)))
 
 status-of-requires : tie.Need-status-of-requires
 status-of-requires c κs =
     let t = c .before .before .before in
-    let h = formed _ (sym (t .before .well-formed .ensures) ∙ not-false _ (t .if1 .left)) .header in
+    let h = wellFormed-formed _ (sym (t .before .well-formed .ensures) ∙ not-false _ (t .if1 .left)) .header in
     (h, (omega (arith, c .before .if2 .left), omega (arith, c .if3 .left, c .before .before .read-number .ensures .0)))
 
 refuse-requires-4 : tie.Need-refuse-requires-4
@@ -59,7 +64,12 @@ returns-4 c =
     let t = c .before .before .before .before .before .before in
     let formed = sym (t .before .well-formed .ensures) ∙ not-false _ (t .if1 .left) in
     let k = c .before .before .before in
-    rw (c .refuse4 .ensures, ← k .before .before .read-number .ensures .0, ← c .before .before .status-of .ensures, formed)
+    rw (
+      c .refuse4 .ensures,
+      ← k .before .before .read-number .ensures .0,
+      ← c .before .before .status-of .ensures,
+      wellFormed-formed,
+    )
     (rw (ne-eqb _ _ (k .before .if2 .left), le-ltb _ _ (k .if3 .left), ne-eqb _ _ (c .before .if4 .taken)))
 
 read-number-requires-2 : tie.Need-read-number-requires-2
@@ -87,7 +97,7 @@ returns-5 c =
       ← k .before .status-of .ensures,
       ← c .before .before .before .read-number2 .ensures .0,
       ← c .before .before .read-number3 .ensures .0,
-      formed,
+      wellFormed-formed,
     )
     (rw (
       ne-eqb _ _ (k .before .before .before .if2 .left),
@@ -107,7 +117,7 @@ returns-6 c =
       ← k .before .status-of .ensures,
       ← c .before .before .read-number2 .ensures .0,
       ← c .before .read-number3 .ensures .0,
-      formed,
+      wellFormed-formed,
     )
     (rw (
       ne-eqb _ _ (k .before .before .before .if2 .left),

@@ -4,10 +4,10 @@ use borrow.Author.Needs.{needs}
 use Rattle.refusal.specs.Verdict.{verdict}
 use Rattle.refusal.proofs.Verdict.{outcome-accepted, outcome-refused}
 use Rattle.refusal.proofs.Keeps.{keeps-refused, keeps-accepted}
-use Rattle.image.proofs.WellFormed.{formed}
+use Rattle.image.proofs.WellFormed.{wellFormed-formed}
 use Rattle.changes.specs.Changes.{withdrawn}
 use Rattle.register.specs.Calls.{withdrawalGrounds, Withdraws}
-use Rattle.register.proofs.Accepted.{withdrawable}
+use Rattle.register.proofs.Accepted.{accepted-withdrawable}
 use Rattle.register.proofs.withdrawal.withdraw.Statement.{statement}
 use Rattle.register.proofs.withdrawal.withdraw.Tie as tie
 
@@ -20,8 +20,8 @@ enum-told c = search needs
 change-requires : tie.Need-change-requires
 change-requires c κs =
     let e = sym (c .before .enum-told .given .1) ∙ c .before .before .before .check-withdrawal .ensures in
-    let w = withdrawable _ _ (outcome-accepted (verdict (withdrawalGrounds _ _)) e) in
-    (formed _ (w .formed) .header, ((w .from, w .to), w .room))
+    let w = accepted-withdrawable _ _ (outcome-accepted (verdict (withdrawalGrounds _ _)) e) in
+    (wellFormed-formed _ (w .formed) .header, ((w .from, w .to), w .room))
 
 enum-known-why : tie.Need-enum-known-why
 enum-known-why c = search needs

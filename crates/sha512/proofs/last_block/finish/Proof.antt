@@ -5,15 +5,16 @@ use mathlib.Core.Path.{_≡_, sym}
 use lib.ListN.{take, length}
 use lib.Seq.{length-take-le}
 use borrow.Author.Needs.{needs}
-use Rattle.padding.proofs.Padding.{zeros-for}
-use Rattle.sha512.specs.Parts.{finished, waiting}
+use Rattle.sha512_padding.proofs.Padding.{zeros-for}
+use Rattle.sha512.specs.Feeding.{finished, waiting}
 use Rattle.sha512.proofs.last_block.finish.Statement.{statement}
 use Rattle.sha512.proofs.last_block.finish.Tie as tie
 
 long : (c : tie.Start) → length (c .args .state .block) ≡ 128
 long c = search needs
 
-waits : (c : tie.Start) → length (take (c .args .state .total % 128) (c .args .state .block)) ≡ c .args .state .total % 128
+waits : (c : tie.Start)
+    → length (take (c .args .state .total % 128) (c .args .state .block)) ≡ c .args .state .total % 128
 waits c = length-take-le _ _ (omega (arith, long c))
 
 slice-aggregate-pad : tie.Need-slice-aggregate-pad
@@ -26,8 +27,11 @@ slice-aggregate-pad-2 : tie.Need-slice-aggregate-pad-2
 slice-aggregate-pad-2 c = sym (waits (c .before .before .before .before .before .before))
 
 pad-requires : tie.Need-pad-requires
-pad-requires c κs = let s = c .before .before .before .before .before .before in
-    (waits s, zeros-for (take (s .args .state .total % 128) (s .args .state .block)) (s .args .state .total) 128 (waits s) (omega arith))
+pad-requires c κs = let s = c .before .before .before .before .before .before in (
+  waits s,
+  zeros-for (take (s .args .state .total % 128) (s .args .state .block)) (s .args .state .total) 128
+      (waits s) (omega arith),
+)
 
 slice-aggregate-absorb : tie.Need-slice-aggregate-absorb
 slice-aggregate-absorb c = search needs
@@ -52,8 +56,11 @@ slice-aggregate-pad-4 : tie.Need-slice-aggregate-pad-4
 slice-aggregate-pad-4 c = sym (waits (c .before .before .before .before .before .before))
 
 pad-requires-2 : tie.Need-pad-requires-2
-pad-requires-2 c κs = let s = c .before .before .before .before .before .before in
-    (waits s, zeros-for (take (s .args .state .total % 128) (s .args .state .block)) (s .args .state .total) 256 (waits s) (omega arith))
+pad-requires-2 c κs = let s = c .before .before .before .before .before .before in (
+  waits s,
+  zeros-for (take (s .args .state .total % 128) (s .args .state .block)) (s .args .state .total) 256
+      (waits s) (omega arith),
+)
 
 slice-aggregate-absorb-2 : tie.Need-slice-aggregate-absorb-2
 slice-aggregate-absorb-2 c = search needs

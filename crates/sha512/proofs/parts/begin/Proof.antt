@@ -1,6 +1,6 @@
 -- Nothing waits in a block of zeros.
 use borrow.Author.Needs.{needs}
-use Rattle.sha512.specs.Parts.{begun, filled}
+use Rattle.sha512.specs.Feeding.{begun, filled}
 use Rattle.sha512.proofs.parts.begin.Statement.{statement}
 use Rattle.sha512.proofs.parts.begin.Tie as tie
 

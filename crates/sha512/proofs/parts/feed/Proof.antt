@@ -7,7 +7,7 @@ use lib.Seq.{length-take-le}
 use borrow.Author.Needs.{needs}
 use Rattle.stretch.proofs.Tail.{lent-tail}
 use Rattle.sha512.proofs.Join.{fed-aligned, fed-short, fed-past}
-use Rattle.sha512.specs.Parts.{waiting}
+use Rattle.sha512.specs.Feeding.{waiting}
 use Rattle.sha512.proofs.parts.feed.Statement.{statement}
 use Rattle.sha512.proofs.parts.feed.Tie as tie
 
@@ -21,7 +21,8 @@ feed-aligned-requires : tie.Need-feed-aligned-requires
 feed-aligned-requires c κs = search needs
 
 returns : tie.Need-returns
-returns c = c .feed-aligned .ensures ∙ rw (c .before .before .before .before .wrapping-add-u64 .ensures) (fed-aligned _ _ (omega arith))
+returns c = c .feed-aligned .ensures
+    ∙ rw (c .before .before .before .before .wrapping-add-u64 .ensures) (fed-aligned _ _ (omega arith))
 
 sub-room : tie.Need-sub-room
 sub-room c = search needs
@@ -30,20 +31,25 @@ array-share-prefix-block : tie.Need-array-share-prefix-block
 array-share-prefix-block c = omega (arith, block-long (c .before .before .before .before .before .before .before))
 
 slice-aggregate-fill : tie.Need-slice-aggregate-fill
-slice-aggregate-fill c = sym (length-take-le _ _ (omega (arith, block-long (c .before .before .before .before .before .before .before .before))))
+slice-aggregate-fill c =
+    sym (length-take-le _ _
+    (omega (arith, block-long (c .before .before .before .before .before .before .before .before))))
 
 fill-requires : tie.Need-fill-requires
 fill-requires c κs = rw length-take (omega arith)
 
 returns-2 : tie.Need-returns-2
 unfolding waiting
-returns-2 c = fed-short _ _ _ _ (rw (length-append, length-take) (omega arith)) (c .fill .ensures) (c .before .before .before .before .before .before .before .wrapping-add-u64 .ensures)
+returns-2 c = fed-short _ _ _ _ (rw (length-append, length-take) (omega arith)) (c .fill .ensures)
+    (c .before .before .before .before .before .before .before .wrapping-add-u64 .ensures)
 
 array-share-prefix-block-2 : tie.Need-array-share-prefix-block-2
 array-share-prefix-block-2 c = omega (arith, block-long (c .before .before .before .before .before .before .before))
 
 slice-aggregate-fill-2 : tie.Need-slice-aggregate-fill-2
-slice-aggregate-fill-2 c = sym (length-take-le _ _ (omega (arith, block-long (c .before .before .before .before .before .before .before .before))))
+slice-aggregate-fill-2 c =
+    sym (length-take-le _ _
+    (omega (arith, block-long (c .before .before .before .before .before .before .before .before))))
 
 slice-aggregate-fill-3 : tie.Need-slice-aggregate-fill-3
 slice-aggregate-fill-3 c = sym (length-take-le _ _ (omega arith))
@@ -71,11 +77,15 @@ feed-aligned-requires-2 c κs = search needs
 
 returns-3 : tie.Need-returns-3
 unfolding waiting
-returns-3 c = let s = c .before .before .before .before .before .before .before .before .before .before .before .before .before .before in
-    let b : length (s .args .state .block) ≡ 128 = block-long s in
+returns-3 c =
+    let c₄ = c .before .before .before .before in
+    let c₁₂ = c₄ .before .before .before .before .before .before .before .before in
+    let b : length (c₁₂ .before .before .args .state .block) ≡ 128 = block-long c₁₂ .before .before in
     c .feed-aligned2 .ensures
-    ∙ rw (lent-tail, c .before .before .absorb .ensures, c .before .before .before .before .fill2 .ensures, c .before .before .before .before .before .before .before .before .before .before .before .before .wrapping-add-u64 .ensures)
-    (fed-past (s .args .state) (s .args .part .now) (128 - s .args .state .total % 128) (rw (length-append, length-take, length-take) (omega arith)))
+    ∙ rw (lent-tail, c .before .before .absorb .ensures, c₄ .fill2 .ensures, c₁₂ .wrapping-add-u64 .ensures)
+    (fed-past (c₁₂ .before .before .args .state) (c₁₂ .before .before .args .part .now)
+    (128 - c₁₂ .before .before .args .state .total % 128)
+    (rw (length-append, length-take, length-take) (omega arith)))
 
 pub feed-spec : {M : Type 1} → statement M
 feed-spec =

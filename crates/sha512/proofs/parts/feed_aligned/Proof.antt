@@ -1,9 +1,9 @@
--- What lies behind the whole blocks waits.
+-- What lies after the whole blocks waits.
 use mathlib.Core.List.{append-nil}
 use borrow.Author.Needs.{needs}
 use Rattle.stretch.proofs.Tail.{lent-tail}
 use Rattle.sha512.specs.Message.{rest}
-use Rattle.sha512.specs.Parts.{after}
+use Rattle.sha512.specs.Feeding.{after}
 use Rattle.sha512.proofs.parts.feed_aligned.Statement.{statement}
 use Rattle.sha512.proofs.parts.feed_aligned.Tie as tie
 

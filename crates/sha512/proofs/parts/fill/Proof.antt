@@ -1,4 +1,4 @@
--- Over zeros the two stretches, one behind the other.
+-- Over zeros the two stretches, one after the other.
 use mathlib.Core.Path.{_∙_}
 use borrow.Author.Needs.{needs}
 use Rattle.sha512.proofs.Join.{laid-filled}
@@ -18,7 +18,10 @@ copy-at-requires : tie.Need-copy-at-requires
 copy-at-requires c κs = search needs
 
 returns : tie.Need-returns
-returns c = c .before .copy-at .ensures ∙ rw (c .before .before .before .before .copy .ensures) (laid-filled _ _ (c .before .before .before .before .before .before .before .before .pre))
+returns c =
+    let c₄ = c .before .before .before .before in
+    let c₈ = c₄ .before .before .before .before in
+    c .before .copy-at .ensures ∙ rw (c₄ .copy .ensures) (laid-filled _ _ (c₈ .pre))
 
 pub fill-spec : {M : Type 1} → statement M
 fill-spec =

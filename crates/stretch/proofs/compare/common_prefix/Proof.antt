@@ -29,7 +29,9 @@ shared-slice-read-if2-2 : tie.Need-shared-slice-read-if2-2 Inv-loop μ-loop
 shared-slice-read-if2-2 c = omega (arith, ltb-true)
 
 returns : tie.Need-returns Inv-loop μ-loop
-returns c = let l = c .before .before .before .before .before in sym (lcp-here _ _ (l .loop .i) (omega (arith, ltb-true)) (omega (arith, ltb-true)) (c .if2 .taken) (l .loop .inv .2))
+returns c = let l = c .before .before .before .before .before in
+    sym (lcp-here _ _ (l .loop .i) (omega (arith, ltb-true)) (omega (arith, ltb-true)) (c .if2 .taken)
+    (l .loop .inv .2))
 
 add-i : tie.Need-add-i Inv-loop μ-loop
 add-i c = search needs
@@ -38,8 +40,12 @@ loop-less : tie.Need-loop-less Inv-loop μ-loop
 loop-less c = search needs
 
 loop-again : tie.Need-loop-again Inv-loop μ-loop
-loop-again c = let l = c .before .before .before .before .before .loop in
-    (omega (arith, ltb-true), omega (arith, ltb-true), lcp-on _ _ (l .i) 1 (omega (arith, ltb-true)) (omega (arith, ltb-true)) (take-one _ _ (l .i) (l .i) (omega (arith, ltb-true)) (omega (arith, ltb-true)) (c .if2 .left)) (l .inv .2))
+loop-again c = let l = c .before .before .before .before .before .loop in (
+  omega (arith, ltb-true),
+  omega (arith, ltb-true),
+  lcp-on _ _ (l .i) 1 (omega (arith, ltb-true)) (omega (arith, ltb-true))
+      (take-one _ _ (l .i) (l .i) (omega (arith, ltb-true)) (omega (arith, ltb-true)) (c .if2 .left)) (l .inv .2),
+)
 
 returns-2 : tie.Need-returns-2 Inv-loop μ-loop
 returns-2 c = let l = c .before .before .loop in sym (lcp-end-right _ _ (l .i) (omega (arith, ltb-false)) (l .inv .2))

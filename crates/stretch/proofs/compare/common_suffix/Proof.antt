@@ -12,7 +12,8 @@ use Rattle.stretch.proofs.compare.common_suffix.Statement.{statement}
 use Rattle.stretch.proofs.compare.common_suffix.Tie as tie
 
 abbrev Inv-loop : tie.InvT-loop
-Inv-loop a b i₀ i = (i ≤ length a) × (i ≤ length b) × (lcs a b ≡ i + lcs (take (length a - i) a) (take (length b - i) b))
+Inv-loop a b i₀ i = (i ≤ length a) × (i ≤ length b)
+    × (lcs a b ≡ i + lcs (take (length a - i) a) (take (length b - i) b))
 
 abbrev μ-loop : tie.MeasureT-loop
 μ-loop a b i₀ i = length a - i
@@ -42,7 +43,9 @@ shared-slice-read-if2-2 : tie.Need-shared-slice-read-if2-2 Inv-loop μ-loop
 shared-slice-read-if2-2 c = omega (arith, ltb-true)
 
 returns : tie.Need-returns Inv-loop μ-loop
-returns c = let l = c .before .before .before .before .before in sym (lcs-here _ _ (l .loop .i) (omega (arith, ltb-true)) (omega (arith, ltb-true)) (c .if2 .taken) (l .loop .inv .2))
+returns c = let l = c .before .before .before .before .before in
+    sym (lcs-here _ _ (l .loop .i) (omega (arith, ltb-true)) (omega (arith, ltb-true)) (c .if2 .taken)
+    (l .loop .inv .2))
 
 add-i : tie.Need-add-i Inv-loop μ-loop
 add-i c = search needs
@@ -52,14 +55,16 @@ loop-less c = search needs
 
 loop-again : tie.Need-loop-again Inv-loop μ-loop
 loop-again c =
-    let k = c .before .before .before .before .before in
-    let l = k .loop in
-    let a = k .before .before .before .before .args .a .now in
-    let b = k .before .before .before .before .args .b .now in (
+    let c₅ = c .before .before .before .before .before in
+    let c₉ = c₅ .before .before .before .before in
+    let l = c₅ .loop in
+    let a = c₉ .args .a .now in
+    let b = c₉ .args .b .now in (
       omega arith,
       omega (arith, ltb-true),
       lcs-on a b (l .i) 1 (omega (arith, ltb-true)) (omega (arith, ltb-true))
-          (take-one a b (length a - l .i - 1) (length b - l .i - 1) (omega (arith, ltb-true)) (omega (arith, ltb-true)) (c .if2 .left))
+          (take-one a b (length a - l .i - 1) (length b - l .i - 1) (omega (arith, ltb-true)) (omega (arith, ltb-true))
+          (c .if2 .left))
           (l .inv .2),
     )
 

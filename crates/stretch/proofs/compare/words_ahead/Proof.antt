@@ -45,7 +45,9 @@ loop-again c = let l = c .before .before .before .before in
     let s = l .before .before .before in (
       omega arith,
       lcp-on _ _ (l .loop .i) 8 (omega arith) (omega arith)
-          (bigEndian-same 8 _ _ (l .loop .i) (l .loop .i) (omega arith) (omega arith) (λ k. omega (arith, s .shared-slice-known .given k)) (λ k. omega (arith, l .before .before .shared-slice-known2 .given k))
+          (bigEndian-same 8 _ _ (l .loop .i) (l .loop .i) (omega arith) (omega arith)
+          (λ k. omega (arith, s .shared-slice-known .given k))
+          (λ k. omega (arith, l .before .before .shared-slice-known2 .given k))
           (sym (c .before .before .read-word .ensures) ∙ c .if1 .left ∙ c .before .read-word2 .ensures))
           (l .loop .inv .1),
     )

@@ -57,7 +57,10 @@ loop-again c = let l = c .before .before .before .before in
     let s = l .before .before .before in (
       omega arith,
       lcs-on _ _ (l .loop .i) 8 (omega arith) (omega arith)
-          (bigEndian-same 8 (s .before .args .a .now) (s .before .args .b .now) (length (s .before .args .a .now) - l .loop .i - 8) (length (s .before .args .b .now) - l .loop .i - 8) (omega arith) (omega arith) (λ k. omega (arith, s .shared-slice-known .given k)) (λ k. omega (arith, l .before .before .shared-slice-known2 .given k))
+          (bigEndian-same 8 (s .before .args .a .now) (s .before .args .b .now)
+          (length (s .before .args .a .now) - l .loop .i - 8) (length (s .before .args .b .now) - l .loop .i - 8)
+          (omega arith) (omega arith) (λ k. omega (arith, s .shared-slice-known .given k))
+          (λ k. omega (arith, l .before .before .shared-slice-known2 .given k))
           (sym (c .before .before .read-word .ensures) ∙ c .if1 .left ∙ c .before .read-word2 .ensures))
           (l .loop .inv .1),
     )

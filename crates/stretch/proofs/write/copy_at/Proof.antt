@@ -22,7 +22,8 @@ same-length c = search needs
 returns : tie.Need-returns
 returns c =
     let s = c .before .before .before .before .before .before in
-    rw (c .before .before .copy .ensures) (over-tail-front (s .args .to .now) (s .args .place) (s .args .from .now) (s .pre))
+    rw (c .before .before .copy .ensures)
+    (over-tail-front (s .args .to .now) (s .args .place) (s .args .from .now) (s .pre))
 
 pub copy-at-spec : {M : Type 1} → statement M
 copy-at-spec =

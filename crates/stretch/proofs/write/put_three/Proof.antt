@@ -1,4 +1,4 @@
--- Two behind one, and one behind two.
+-- Two after one, and one after two.
 use native.Mathlib.Omega.{arith}
 use borrow.Author.Needs.{needs}
 use Rattle.stretch.proofs.Wrote.{wrote-then}

@@ -20,7 +20,12 @@ put-three-requires-2 : tie.Need-put-three-requires-2
 put-three-requires-2 c κs =
     let o = c .before .before .before in
     let next = simp length-append at (o .put-three .ensures .next) in
-    omega (arith, next, o .put-three .kept .0, o .before .before .before .before .before .before .before .before .before .pre)
+    omega (
+      arith,
+      next,
+      o .put-three .kept .0,
+      o .before .before .before .before .before .before .before .before .before .pre,
+    )
 
 slice-aggregate-put : tie.Need-slice-aggregate-put
 slice-aggregate-put c = search needs
@@ -48,7 +53,8 @@ returns c = let p = c .before .before in
     let q = p .before .before .before .before .before in
     let o = q .before .before .before .before in
     rw (← allele-pieces)
-    (wrote-then _ _ _ _ _ _ _ _ (omega arith) (o .put-three .ensures) (wrote-then _ _ _ _ _ _ _ _ (o .put-three .ensures .room) (q .put-three2 .ensures) (p .put .ensures)))
+    (wrote-then _ _ _ _ _ _ _ _ (omega arith) (o .put-three .ensures)
+    (wrote-then _ _ _ _ _ _ _ _ (o .put-three .ensures .room) (q .put-three2 .ensures) (p .put .ensures)))
 
 pub write-allele-spec : {M : Type 1} → statement M
 write-allele-spec =

@@ -3,7 +3,7 @@ use native.Mathlib.Omega.{arith}
 use lib.Dec.{eqb}
 use borrow.Author.Needs.{needs}
 use borrow.Author.Tests.{not-true, not-false, eqb-true, eqb-false}
-use Rattle.letters.specs.Letters.{digestLength}
+use Rattle.alphabets.specs.Alphabets.{digestLength}
 use Rattle.words.specs.Vocabulary.{Digest}
 use Rattle.words.proofs.Onwards.{onward-stopped, onward-step}
 use Rattle.words.proofs.Readings.{lent-most, goes-digest, stops-digest}

@@ -1,0 +1,23 @@
+-- Each arm is the definition's case.
+use borrow.Author.Needs.{needs}
+use Rattle.c_answers.proofs.written.flat_form.Statement.{statement}
+use Rattle.c_answers.proofs.written.flat_form.Tie as tie
+
+enum-known-a : tie.Need-enum-known-a
+enum-known-a c = search needs
+
+flat-kind-requires : tie.Need-flat-kind-requires
+flat-kind-requires c κs = search needs
+
+enum-known-a-2 : tie.Need-enum-known-a-2
+enum-known-a-2 c = search needs
+
+returns : tie.Need-returns
+returns c = rw (c .before .before .a .given .1) (rw (c .flat-kind .ensures))
+
+returns-2 : tie.Need-returns-2
+returns-2 c = rw (c .before .a2 .given .1)
+
+pub flat-form-spec : {M : Type 1} → statement M
+flat-form-spec =
+    tie.close (tie.spec enum-known-a flat-kind-requires enum-known-a-2 returns returns-2)

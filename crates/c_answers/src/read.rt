@@ -1,0 +1,49 @@
+// The answers of the calls that read a text, flattened.
+use super::FvAllele;
+use super::FvLocation;
+use text_reader::AlleleRead;
+use text_reader::LocationRead;
+ghost use mathlib.Core.Path.{_≡_};
+ghost use Rattle.c_answers.specs.Flat.{flatLocation, flatAllele};
+
+pub fn flat_location(a: LocationRead) -> FvLocation
+    ensures { λ r. ⌜ r ≡ flatLocation a ⌝ }
+{
+    match a {
+        LocationRead::Accepted(location) => FvLocation {
+            refusal: 0,
+            value: 0,
+            start: location.start,
+            end: location.end,
+            digest: location.digest,
+        },
+        LocationRead::Refused(refused) => FvLocation {
+            refusal: refused.number,
+            value: refused.value,
+            start: 0,
+            end: 0,
+            digest: 0,
+        },
+    }
+}
+
+pub fn flat_allele(a: AlleleRead) -> FvAllele
+    ensures { λ r. ⌜ r ≡ flatAllele a ⌝ }
+{
+    match a {
+        AlleleRead::Accepted(allele) => FvAllele {
+            refusal: 0,
+            value: 0,
+            location: allele.location,
+            sequence: allele.sequence,
+            length: allele.length,
+        },
+        AlleleRead::Refused(why) => FvAllele {
+            refusal: why.number,
+            value: why.value,
+            location: 0,
+            sequence: 0,
+            length: 0,
+        },
+    }
+}

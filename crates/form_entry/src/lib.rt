@@ -1,0 +1,16 @@
+// Which number a normal form gets in a register's image (document 01, "Entry"): "known", else "again", else
+// "new", where there is room. Crate `entry` makes it a call, with the tests of image and allele.
+//
+// specs/Found.antt has how a form is found and what its entry is answered and leaves, and specs/Calls.antt what
+// that entry promises.
+mod form;
+
+pub use form::enter_form;
+
+// The answer of an entry: how the allele was found, and its number.
+pub enum Entered {
+    New(u64),
+    Again(u64),
+    Known(u64),
+    Refused(refusal::Refusal),
+}
