@@ -23,10 +23,10 @@ def files_missing(document):
 
 
 def names_written():
-    """The words of all sources, and of what the programs print."""
+    """The words of all sources, of what the programs print, and of the list of crates."""
     sources = (path for suffix in ("antt", "rt") for path in Path("crates").rglob(f"*.{suffix}"))
     printed = Path("crates").glob("*/stdout")
-    return {word for path in (*sources, *printed) for word in re.findall(r"[\w-]+", path.read_text("utf-8"))}
+    return {word for path in (*sources, *printed, Path("crates.txt")) for word in re.findall(r"[\w-]+", path.read_text("utf-8"))}
 
 
 def names_missing(document, words):

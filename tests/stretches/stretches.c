@@ -1,5 +1,5 @@
 /*
- * Where the stretches lie that reading hands back. Crate handed passes each to write; the write here stands in
+ * Where the stretches lie that reading hands back. Crate stretch_writer passes each to write; the write here stands in
  * the place of the C library's and keeps what it is passed. Ends with status 1 at the first stretch that lies
  * elsewhere: that of an accepted text lies in it as document 01 says, that of a refused text is the empty one
  * at its start.

@@ -54,8 +54,8 @@ module _ (r : List ℕ) (start end : ℕ) (x digest out : List ℕ) (place k : �
       (verdict-later (givenGrounds r start end x)
       (digestTextGrounds digest ++ (foreignNormal (form .replacement) ∷ [])) (said .grounds))) 0)
 
-  letters : Residues sequenceLimit (form .replacement)
-  letters =
+  residues : Residues sequenceLimit (form .replacement)
+  residues =
       record {
         few = omega (
           arith,
@@ -80,14 +80,14 @@ module _ (r : List ℕ) (start end : ℕ) (x digest out : List ℕ) (place k : �
         length = length (form .replacement);
       })
   unfolding textOf
-  allele-back answer t = reads-allele-back location (form .replacement) located letters answer (rw (said .stands) at t)
+  allele-back answer t = reads-allele-back location (form .replacement) located residues answer (rw (said .stands) at t)
 
   pub allele-location-back : (s : List ℕ) → HandsBack AlleleText (λ t a. a .location) (part left place (place + k)) s
       → s ≡ location
   unfolding textOf
-  allele-location-back s h = location-of-back location (form .replacement) located letters s (rw (said .stands) at h)
+  allele-location-back s h = location-of-back location (form .replacement) located residues s (rw (said .stands) at h)
 
   pub allele-sequence-back : (s : List ℕ) → HandsBack AlleleText (λ t a. a .sequence) (part left place (place + k)) s
       → s ≡ form .replacement
   unfolding textOf
-  allele-sequence-back s h = sequence-of-back location (form .replacement) located letters s (rw (said .stands) at h)
+  allele-sequence-back s h = sequence-of-back location (form .replacement) located residues s (rw (said .stands) at h)

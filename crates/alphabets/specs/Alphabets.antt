@@ -1,5 +1,4 @@
--- Document 01's letters and characters: residues, the base64url alphabet (RFC 4648 section 5), and the check of a
--- digest text.
+-- Document 01's alphabets: letters and residues, base64url (RFC 4648 section 5), and the check of a digest text.
 use Prim.Native.Nat.{ℕ}
 use mathlib.Core.Bool.{Bool, true, false, not, cond}
 use mathlib.Core.List.{List, [], _∷_}

@@ -1,5 +1,5 @@
-// The letters of document 01: residues and the first foreign byte of a stretch; the base64url
-// alphabet and the check of a digest text. Every crate that has such a test stands on this one.
+// The alphabets of document 01: letters, residues and the first foreign byte of a stretch; base64url and
+// the check of a digest text. Every crate that has such a test stands on this one.
 mod base64;
 mod residues;
 

@@ -9,12 +9,12 @@ use Rattle.decimals.specs.Decimal.{decimal}
 use Rattle.input_line.specs.Meaning.{space, lineFeed}
 use Rattle.answer_line.specs.Answers.{word}
 
--- a form's front up to its replacement, what ends it before so many letters, and a refusal's line
+-- a form's front up to its replacement, what ends it before so many residues, and a refusal's line
 abbrev pub head : ℕ → ℕ → Kind → List ℕ → List ℕ
 head start end kind behind = ((decimal start ++ (space ∷ [])) ++ (decimal end ++ (space ∷ [])) ++ word kind) ++ behind
 
 abbrev pub stop : ℕ → List ℕ
-stop letters = cond (eqb letters 0) (ascii " .") (ascii " ")
+stop residues = cond (eqb residues 0) (ascii " .") (ascii " ")
 
 abbrev pub refusedLine : ℕ → List ℕ
 refusedLine number = ascii "refused " ++ (decimal number ++ (lineFeed ∷ []))

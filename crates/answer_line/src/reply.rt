@@ -21,14 +21,14 @@ ghost use Rattle.input_line.specs.Meaning.{lineFeed};
 ghost use Rattle.answer_line.specs.Answers.{formReply, alleleReply, answerLine, Room};
 ghost use Rattle.answer_line.specs.Inner.{head, stop};
 
-// The front of a form whose replacement has so many letters.
-fn form_head(out: &mut [u8], w: Stretches, letters: usize) -> usize
+// The front of a form whose replacement has so many residues.
+fn form_head(out: &mut [u8], w: Stretches, residues: usize) -> usize
     requires { ⌜ 56 ≤ length (now out) ⌝ }
-    ensures { λ r. ⌜ Wrote (now (out .entry)) 0 (head (w .start) (w .end) (w .kind) (stop letters)) (now (out .exit)) r ⌝ }
+    ensures { λ r. ⌜ Wrote (now (out .entry)) 0 (head (w .start) (w .end) (w .kind) (stop residues)) (now (out .exit)) r ⌝ }
     ensures { λ r. ⌜ r ≤ 56 ⌝ }
 {
     let kind = w.kind;
-    if letters == 0 {
+    if residues == 0 {
         return write_head(out, w.start as u64, w.end as u64, kind, b" .");
     }
     write_head(out, w.start as u64, w.end as u64, kind, b" ")

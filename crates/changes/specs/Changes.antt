@@ -37,7 +37,7 @@ unfoldable pub pooled : List ℕ → List ℕ → List ℕ → List ℕ
 pooled b changed x = over changed (poolOffset b + poolUsed b) x
 
 unfoldable pub counted : List ℕ → List ℕ → ℕ → List ℕ
-counted b changed letters = put (put changed issuedPlace (issued b + 1)) poolUsedPlace (poolUsed b + letters)
+counted b changed residues = put (put changed issuedPlace (issued b + 1)) poolUsedPlace (poolUsed b + residues)
 
 -- entry answered "new": the next number, journalled
 unfoldable pub numbered : List ℕ → Normal → List ℕ

@@ -44,13 +44,13 @@ module _ (room n : ℕ) (d : List ℕ) (r j p : ℕ) (c : List ℕ) (f : Fresh r
   pub fresh-formed : n ≤ referenceLimit → r ≤ countLimit → j ≤ countLimit → p ≤ poolLimit → every base64url d ≡ true
       → poolPlace r j + p ≤ room
       → wellFormed c ≡ true
-  fresh-formed reference records journal pool letters fits =
+  fresh-formed reference records journal pool residues fits =
       let image : Formed c
       = record {
         header = blank-header reference records journal pool fits;
         edition = f .edition;
         records-at = f .records-at;
-        digest = rw (f .digest) letters;
+        digest = rw (f .digest) residues;
         records = λ k l. absurd (not-suc-le-zero (rw (f .numbers) at l));
         used = lengths-none;
         entries = λ k l. omega (arith, f .count);

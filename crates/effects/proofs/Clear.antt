@@ -17,7 +17,7 @@ use Rattle.image.specs.Header.{Header}
 use Rattle.image.proofs.Arranged.{fields-inside, record-header, record-order, record-apart, record-journal}
 use Rattle.image.proofs.Spared.{Aside}
 use Rattle.effects.proofs.Spares.{Unwritten, edition-on, records-on, journal-on, pool-on, record-of, status-of}
-use Rattle.effects.proofs.Spares.{entries, letters, Clear}
+use Rattle.effects.proofs.Spares.{entries, residues, Clear}
 
 module _ (b : List ℕ) (h : Header b) (i : ℕ) where
   pub record-end : (j : ℕ) → 1 ≤ j → j ≤ issued b → recordPlace j + recordSize ≤ journalOffset b
@@ -41,7 +41,7 @@ module _ (b : List ℕ) (h : Header b) (i : ℕ) where
       beside _ _ (record-of j _ _) = inr (omega (arith, record-header j))
       beside _ _ (status-of j _ _ _) = inr (omega (arith, record-header j))
       beside _ _ entries = inr (omega (arith, h .after-header))
-      beside _ _ letters = inr (omega (arith, h .after-header, h .pool))
+      beside _ _ residues = inr (omega (arith, h .after-header, h .pool))
 
   pub clear-issued : Clear b i issuedPlace 4
   clear-issued = clear-header issuedPlace (omega arith) (inl (omega arith)) (inr (omega arith)) (inr (omega arith))
@@ -72,7 +72,7 @@ module _ (b : List ℕ) (h : Header b) (i : ℕ) where
       beside _ _ (record-of j o g) = records j o g
       beside _ _ (status-of j o g d) = statuses j o g d
       beside _ _ entries = journal
-      beside _ _ letters = pool
+      beside _ _ residues = pool
 
   pub clear-status : 1 ≤ i → i ≤ issued b → Clear b i (statusPlace i) 4
   clear-status o g =
@@ -111,8 +111,8 @@ module _ (b : List ℕ) (h : Header b) (i : ℕ) where
       (inl (omega arith))
       (inr (omega (arith, journal-end)))
 
-  pub clear-letters : (n : ℕ) → poolUsed b + n ≤ poolCapacity b → Clear b i (poolOffset b + poolUsed b) n
-  clear-letters n g =
+  pub clear-residues : (n : ℕ) → poolUsed b + n ≤ poolCapacity b → Clear b i (poolOffset b + poolUsed b) n
+  clear-residues n g =
       clear-behind (poolOffset b + poolUsed b) n (omega (arith, h .after-header, h .pool)) (omega (arith, h .whole))
       (λ j p q. inl (omega (arith, record-end j p q, fields-inside, journal-end)))
       (λ j p q _. inl (omega (arith, record-end j p q, fields-inside, journal-end)))

@@ -1,4 +1,4 @@
--- A number issued and the letters of its replacement counted.
+-- A number issued and the residues of its replacement counted.
 use Prim.Native.Nat.{ℕ, _+_, _≤_}
 use native.Mathlib.Omega.{arith}
 use mathlib.Core.Logic.{inl, inr}

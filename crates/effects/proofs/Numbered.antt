@@ -19,7 +19,7 @@ use Rattle.changes.specs.Changes.{counted, numbered}
 use Rattle.effects.proofs.Seen.{Stays, Issues}
 use Rattle.effects.proofs.Spares.{Spares, spares-on}
 use Rattle.effects.proofs.Read.{Inside, read-stays, read-status, read-entry-at}
-use Rattle.effects.proofs.Stored.{laid, stored, stored-spares, stored-number, stored-letters}
+use Rattle.effects.proofs.Stored.{laid, stored, stored-spares, stored-number, stored-residues}
 use Rattle.effects.proofs.Counted.{counted-spares, counted-spared, counted-issued, counted-used}
 use Rattle.effects.proofs.Journalled.{nextEntry, journalled-spares, journalled-spared, journalled-number}
 use Rattle.effects.proofs.Journalled.{journalled-count, journalled-entry}
@@ -73,17 +73,17 @@ module _ (b : List ℕ) (h : Header b) (f : Normal)
     next-length : lengthOf (numbered b f) (issued b + 1) ≡ length (f .replacement)
     next-length = next-number 3 (omega arith) (omega (arith, h .pool-limit))
 
-    next-letters : part (numbered b f) (poolOffset b + poolUsed b)
+    next-residues : part (numbered b f) (poolOffset b + poolUsed b)
         (poolOffset b + poolUsed b + length (f .replacement)) ≡ f .replacement
-    next-letters =
+    next-residues =
         let from = poolOffset b + poolUsed b in
         let to = from + length (f .replacement) in
         let s = numbered-spared from to (omega (arith, h .after-header, h .pool)) (inr (omega (arith, h .pool))) in
-        s .parts from to (omega arith) (omega arith) (omega arith) ∙ stored-letters b h f record-room pool-room
+        s .parts from to (omega arith) (omega arith) (omega arith) ∙ stored-residues b h f record-room pool-room
 
     next-replacement : Stays b (numbered b f) → replacementOf (numbered b f) (issued b + 1) ≡ f .replacement
     unfolding replacementOf
-    next-replacement s = rw (s .frame .pool-at, next-offset, next-length) next-letters
+    next-replacement s = rw (s .frame .pool-at, next-offset, next-length) next-residues
 
     numbered-issued : issued (numbered b f) ≡ issued b + 1
     unfolding numbered
@@ -120,7 +120,7 @@ module _ (b : List ℕ) (h : Header b) (f : Normal)
           start = next-start l;
           end = next-number 1 (omega arith) g;
           offset = next-offset;
-          letters = next-length;
+          residues = next-length;
           replacement = next-replacement s;
           now = next-number 4 (omega arith) (omega arith);
           count = numbered-count;

@@ -25,17 +25,17 @@ module _ (b c : List ℕ) (w : wellFormed b ≡ true) (f : Normal) (r : Issues b
 
   lengths-all : lengths c (issued c) ≡ poolUsed c
   unfolding lengths
-  lengths-all = rw (r .numbers, add-one (issued b), lengths-before, ← add-one (issued b), r .letters, r .used)
+  lengths-all = rw (r .numbers, add-one (issued b), lengths-before, ← add-one (issued b), r .residues, r .used)
 
   new-record : f .start ≤ f .end → f .end ≤ referenceLength b → every residue (f .replacement) ≡ true
       → FormedRecord c (issued b)
-  new-record order inside letters =
+  new-record order inside residues =
       record {
         ordered = rw (← add-one (issued b)) (omega (arith, r .start, r .end));
         inside = rw (← add-one (issued b)) (omega (arith, r .end, r .stays .frame .reference));
         status = rw (← add-one (issued b), r .now) (omega arith);
         offset = rw (← add-one (issued b)) (r .offset ∙ sym lengths-before);
-        residues = rw (← add-one (issued b), r .replacement) letters;
+        residues = rw (← add-one (issued b), r .replacement) residues;
       }
 
   records-next : FormedRecord c (issued b) → (k : ℕ) → k < issued c → FormedRecord c k
@@ -52,11 +52,11 @@ module _ (b c : List ℕ) (w : wellFormed b ≡ true) (f : Normal) (r : Issues b
       → journalCount b < journalCapacity b
       → poolUsed b + length (f .replacement) ≤ poolCapacity b
       → wellFormed c ≡ true
-  issues-formed order inside letters records journal pool =
+  issues-formed order inside residues records journal pool =
       let g = wellFormed-formed b w in
       let s = r .stays in
       stay-formed b c g s
       (header-stays b c g s (omega arith) (omega (arith, r .count)) (omega (arith, r .used)))
-      (records-next (new-record order inside letters))
+      (records-next (new-record order inside residues))
       lengths-all
       (entries-next b c g s (issued b + 1) (omega arith) (omega arith) (omega arith) (r .count) (r .last))

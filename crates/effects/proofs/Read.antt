@@ -14,9 +14,9 @@ use Rattle.image.specs.Fields.{entryOf, entrySize}
 use Rattle.image.proofs.Spared.{spared-number}
 use Rattle.effects.proofs.Seen.{Frame, Kept, Stays}
 use Rattle.effects.proofs.Spares.{Unwritten, edition-on, records-on, journal-on, pool-on, record-of, status-of}
-use Rattle.effects.proofs.Spares.{entries, letters, Spares}
+use Rattle.effects.proofs.Spares.{entries, residues, Spares}
 
--- the replacements lie within the letters of the pool
+-- the replacements lie within the residues of the pool
 abbrev pub Inside : List ℕ → Type 0
 Inside b = (j : ℕ) → 1 ≤ j → j ≤ issued b → offsetOf b j + lengthOf b j ≤ poolUsed b
 
@@ -48,18 +48,18 @@ module _ (b : List ℕ) (i : ℕ) (c : List ℕ) (s : Spares b i b c) where
     read-record k l = read-number (recordPlace j) (statusPlace j) (record-of j o g) (recordPlace j + k) (omega arith)
         (omega arith)
 
-    -- the letters of a record that lie in the pool
-    read-letters : (at off n : ℕ) → at ≡ poolOffset b → off + n ≤ poolUsed b
+    -- the residues of a record that lie in the pool
+    read-residues : (at off n : ℕ) → at ≡ poolOffset b → off + n ≤ poolUsed b
         → part c (at + off) (at + off + n) ≡ part b (at + off) (at + off + n)
-    read-letters at off n e l =
-        s .spared (poolOffset b) (poolOffset b + poolUsed b) letters .parts (at + off) (at + off + n) (omega arith)
+    read-residues at off n e l =
+        s .spared (poolOffset b) (poolOffset b + poolUsed b) residues .parts (at + off) (at + off + n) (omega arith)
         (omega arith) (omega arith)
 
     read-replacement : Inside b → replacementOf c j ≡ replacementOf b j
     unfolding replacementOf
     read-replacement w =
         rw (read-frame .pool-at, read-record offsetInRecord (omega arith), read-record lengthInRecord (omega arith))
-        (read-letters (poolOffset b) (offsetOf b j) (lengthOf b j) refl (w j o g))
+        (read-residues (poolOffset b) (offsetOf b j) (lengthOf b j) refl (w j o g))
 
     read-kept : Inside b → Kept b c j
     read-kept w =
@@ -68,7 +68,7 @@ module _ (b : List ℕ) (i : ℕ) (c : List ℕ) (s : Spares b i b c) where
               (omega arith);
           end = read-record endInRecord (omega arith);
           offset = read-record offsetInRecord (omega arith);
-          letters = read-record lengthInRecord (omega arith);
+          residues = read-record lengthInRecord (omega arith);
           replacement = read-replacement w;
         }
 

@@ -27,7 +27,7 @@ pub record Kept (b c : List ℕ) (i : ℕ) : Type 0 where
   pub start : startOf c i ≡ startOf b i
   pub end : endOf c i ≡ endOf b i
   pub offset : offsetOf c i ≡ offsetOf b i
-  pub letters : lengthOf c i ≡ lengthOf b i
+  pub residues : lengthOf c i ≡ lengthOf b i
   pub replacement : replacementOf c i ≡ replacementOf b i
 
 -- the frame, every record but for its status, and every journal entry
@@ -72,7 +72,7 @@ pub record Issues (b c : List ℕ) (f : Normal) : Type 0 where
   pub start : startOf c (issued b + 1) ≡ f .start
   pub end : endOf c (issued b + 1) ≡ f .end
   pub offset : offsetOf c (issued b + 1) ≡ poolUsed b
-  pub letters : lengthOf c (issued b + 1) ≡ length (f .replacement)
+  pub residues : lengthOf c (issued b + 1) ≡ length (f .replacement)
   pub replacement : replacementOf c (issued b + 1) ≡ f .replacement
   pub now : statusOf c (issued b + 1) ≡ active
   pub count : journalCount c ≡ journalCount b + 1

@@ -13,7 +13,7 @@ use Rattle.image.specs.Fields.{poolUsed, poolUsedPlace, recordPlace, statusPlac
 use Rattle.image.proofs.Numbers.{length-bytes}
 use Rattle.image.proofs.Spared.{Spared, Aside, spared-over, spared-on}
 
--- of b: the header but for its counts, the records but for number i's status, the journal, the pool's letters
+-- of b: the header but for its counts, the records but for number i's status, the journal, the pool's residues
 pub data Unwritten (b : List ℕ) (i : ℕ) : ℕ → ℕ → Type 0 where
   edition-on : Unwritten b i editionPlace issuedPlace
   records-on : Unwritten b i recordsOffsetPlace journalCountPlace
@@ -22,7 +22,7 @@ pub data Unwritten (b : List ℕ) (i : ℕ) : ℕ → ℕ → Type 0 where
   record-of : (j : ℕ) → 1 ≤ j → j ≤ issued b → Unwritten b i (recordPlace j) (statusPlace j)
   status-of : (j : ℕ) → 1 ≤ j → j ≤ issued b → (j ≡ i → ⊥) → Unwritten b i (statusPlace j) (statusPlace j + 4)
   entries : Unwritten b i (journalOffset b) (entryPlace b (journalCount b))
-  letters : Unwritten b i (poolOffset b) (poolOffset b + poolUsed b)
+  residues : Unwritten b i (poolOffset b) (poolOffset b + poolUsed b)
 
 -- a write of n bytes at a place lies within the image and beside all of them
 pub record Clear (b : List ℕ) (i at n : ℕ) : Type 0 where

@@ -20,7 +20,7 @@ use Rattle.effects.proofs.Seen.{Stays, Restated, Journalled, TakenBack,
 
 module _ (b c : List ℕ) (f : Formed b) (s : Stays b c) where
   pub lengths-stay : (k : ℕ) → k ≤ issued b → lengths c k ≡ lengths b k
-  lengths-stay k h = lengths-same b c k (λ l g. s .kept (suc l) (omega arith) (omega arith) .letters)
+  lengths-stay k h = lengths-same b c k (λ l g. s .kept (suc l) (omega arith) (omega arith) .residues)
 
   -- a record that may have a new status
   pub record-stays : (k : ℕ) → k < issued b → statusOf c (suc k) ≤ 1 → FormedRecord c k

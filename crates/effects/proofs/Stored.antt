@@ -17,7 +17,7 @@ use Rattle.image.proofs.Arranged.{fields-inside, length-record, record-journal}
 use Rattle.image.proofs.Spared.{number-beside}
 use Rattle.changes.specs.Changes.{recorded, pooled}
 use Rattle.effects.proofs.Spares.{Spares, spares-over, spares-on}
-use Rattle.effects.proofs.Clear.{clear-record, clear-letters}
+use Rattle.effects.proofs.Clear.{clear-record, clear-residues}
 
 -- the numbers of the next record
 abbrev pub laid : List ℕ → Normal → List ℕ
@@ -60,7 +60,7 @@ module _ (b : List ℕ) (h : Header b) (f : Normal)
     stored-spares =
         spares-on b 0 b (recorded b f) (stored b f) recorded-spares
         (spares-over b 0 (recorded b f) (poolOffset b + poolUsed b) (f .replacement) (recorded-spares .long)
-        (clear-letters b h 0 (length (f .replacement)) pool-room))
+        (clear-residues b h 0 (length (f .replacement)) pool-room))
 
     -- the record's numbers, in their order
     pub stored-number : (k : ℕ) → k < 5 → getD (laid b f) k 0 < 2 ^ 32
@@ -72,8 +72,8 @@ module _ (b : List ℕ) (h : Header b) (f : Normal)
         (inl (omega (arith, next-end, fields-inside)))
         ∙ recorded-number k l g
 
-    pub stored-letters : part (stored b f) (poolOffset b + poolUsed b)
+    pub stored-residues : part (stored b f) (poolOffset b + poolUsed b)
         (poolOffset b + poolUsed b + length (f .replacement)) ≡ f .replacement
     unfolding pooled
-    stored-letters = part-over (recorded b f) (poolOffset b + poolUsed b) (f .replacement)
+    stored-residues = part-over (recorded b f) (poolOffset b + poolUsed b) (f .replacement)
         (length (f .replacement)) pool-starts refl

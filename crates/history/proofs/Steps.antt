@@ -177,9 +177,9 @@ module _ (r b : List ℕ) (state : State r b) where
     within : f .end ≤ referenceLength b
     within = omega (arith, normal-inside r start end x (allele .inside), ok .reference)
 
-    letters : every residue (f .replacement) ≡ true
+    residues : every residue (f .replacement) ≡ true
     unfolding formGrounds
-    letters =
+    residues =
         let xs = f .replacement in
         let five = foreignNormal xs ∷ [] in
         let clean = verdict-later (givenGrounds r start end x) five (ok .form) in
@@ -219,7 +219,7 @@ module _ (r b : List ℕ) (state : State r b) where
 
       new-formed : wellFormed (numbered b f) ≡ true
       new-formed =
-          issues-formed b (numbered b f) (state .formed) f new-seen ordered within letters
+          issues-formed b (numbered b f) (state .formed) f new-seen ordered within residues
           record-free journal-free pool-free
 
       new-proper : (j : ℕ) → Live (numbered b f) j → Proper r (numbered b f) j

@@ -1,4 +1,4 @@
--- Document 01, "Worked alleles": the register with room for 2 records, 3 journal entries and 15 letters, and two
+-- Document 01, "Worked alleles": the register with room for 2 records, 3 journal entries and 15 residues, and two
 -- calls more, so that each kind of call is accepted once.
 use Prim.Native.Nat.{ℕ}
 use Prim.Native.String.{String}

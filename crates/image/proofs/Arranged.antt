@@ -15,10 +15,10 @@ pub fields-inside : statusInRecord + 4 ≤ recordSize
 unfolding recordSize
 fields-inside = omega arith
 
-pub length-record : (start end offset letters status : ℕ)
-    → length (recordOf start end offset letters status) ≡ recordSize
+pub length-record : (start end offset residues status : ℕ)
+    → length (recordOf start end offset residues status) ≡ recordSize
 unfolding recordOf recordSize
-length-record start end offset letters status = length-numbers (start ∷ end ∷ offset ∷ letters ∷ status ∷ [])
+length-record start end offset residues status = length-numbers (start ∷ end ∷ offset ∷ residues ∷ status ∷ [])
 
 -- the records: after the header, in their order, apart, and before the journal
 pub record-header : (i : ℕ) → headerSize ≤ recordPlace i

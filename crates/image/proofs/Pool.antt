@@ -38,9 +38,9 @@ placed b k = all (placedTests b k)
 good-placed : (b : List ℕ) (k : ℕ) → recordGood b k ≡ cond (placed b k) (every residue (replacementOf b (suc k))) false
 unfolding recordGood placed
 good-placed b k =
-    let letters = every residue (replacementOf b (suc k)) in
-    all-append (placedTests b k) (letters ∷ [])
-    ∙ ap (λ (t : Bool). cond (all (placedTests b k)) t false) (all-one letters)
+    let residues = every residue (replacementOf b (suc k)) in
+    all-append (placedTests b k) (residues ∷ [])
+    ∙ ap (λ (t : Bool). cond (all (placedTests b k)) t false) (all-one residues)
 
 offset : (b : List ℕ) (k : ℕ) → placed b k ≡ true → offsetOf b (suc k) ≡ lengths b k
 unfolding placed
@@ -100,9 +100,9 @@ module _ (b : List ℕ) where
       → cond (below (recordGood b) (issued b)) (eqb (lengths b (issued b)) (poolUsed b)) false ≡ false
   records-bad k l e = rw (below-fails (recordGood b) (issued b) k l (good-placed b k ∙ rw e))
 
-  pub records-end : (letters : ℕ) → letters ≡ lengths b (issued b) → below (placed b) (issued b) ≡ true
-      → cond (eqb letters (poolUsed b)) (every residue (part b (poolOffset b) (poolOffset b + letters))) false
+  pub records-end : (residues : ℕ) → residues ≡ lengths b (issued b) → below (placed b) (issued b) ≡ true
+      → cond (eqb residues (poolUsed b)) (every residue (part b (poolOffset b) (poolOffset b + residues))) false
       ≡ cond (below (recordGood b) (issued b)) (eqb (lengths b (issued b)) (poolUsed b)) false
-  records-end letters e h =
+  records-end residues e h =
       rw (e, ← good-pool b (issued b) h)
       (cond-swap (eqb (lengths b (issued b)) (poolUsed b)) (below (recordGood b) (issued b)))

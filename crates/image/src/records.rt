@@ -54,18 +54,18 @@ fn record_placed(image: &[u8], at: usize, reference: usize, before: usize) -> bo
 }
 
 // Whether that many bytes are all that the pool uses, and each is a residue.
-fn pool_formed(image: &[u8], letters: usize) -> bool
+fn pool_formed(image: &[u8], residues: usize) -> bool
     requires { ⌜ Header (now image) ⌝ }
-    ensures { λ r. ⌜ r ≡ cond (eqb letters (poolUsed (now (image .entry))))
-        (every residue (part (now (image .entry)) (poolOffset (now (image .entry))) (poolOffset (now (image .entry)) + letters)))
+    ensures { λ r. ⌜ r ≡ cond (eqb residues (poolUsed (now (image .entry))))
+        (every residue (part (now (image .entry)) (poolOffset (now (image .entry))) (poolOffset (now (image .entry)) + residues)))
         false ⌝ }
 {
     let used = read_number(image, POOL_USED_AT);
-    if letters != used {
+    if residues != used {
         return false;
     }
     let pool = read_number(image, POOL_OFFSET_AT);
-    first_foreign(&image[pool..pool + letters]) == letters
+    first_foreign(&image[pool..pool + residues]) == residues
 }
 
 // Whether every record is good, and their residues fill the part of the pool that is used. The residues
@@ -78,15 +78,15 @@ pub fn records_formed(image: &[u8]) -> bool
 {
     let issued = read_number(image, ISSUED_AT);
     let reference = read_number(image, REFERENCE_LENGTH_AT);
-    let mut letters = 0;
+    let mut residues = 0;
     let mut passed = 0;
     while passed < issued {
         let at = record_at(passed + 1);
-        if !record_placed(image, at, reference, letters) {
+        if !record_placed(image, at, reference, residues) {
             return false;
         }
-        letters += read_number(image, at + LENGTH_IN_RECORD);
+        residues += read_number(image, at + LENGTH_IN_RECORD);
         passed += 1;
     }
-    pool_formed(image, letters)
+    pool_formed(image, residues)
 }

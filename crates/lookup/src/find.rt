@@ -57,7 +57,7 @@ fn holds_numbers(image: &[u8], number: usize, status: usize, start: u64, end: u6
 fn holds_replacement(
     image: &[u8],
     number: usize,
-    letters: u64,
+    residues: u64,
     a: &[u8],
     b: &[u8],
     c: &[u8],
@@ -65,12 +65,12 @@ fn holds_replacement(
     requires { ⌜ Header (now image) ⌝ }
     requires { ⌜ wellFormed (now image) ≡ true ⌝ }
     requires { ⌜ (1 ≤ number) × (number ≤ issued (now image)) ⌝ }
-    requires { ⌜ letters ≡ length (now a) + (length (now b) + length (now c)) ⌝ }
+    requires { ⌜ residues ≡ length (now a) + (length (now b) + length (now c)) ⌝ }
     ensures { λ r. ⌜ r ≡ same (replacementOf (now (image .entry)) number) (now (a .entry) ++ (now (b .entry) ++ now (c .entry))) ⌝ }
 {
     let at = record_at(number);
     let length = read_number(image, at + LENGTH_IN_RECORD);
-    if length as u64 != letters {
+    if length as u64 != residues {
         return false;
     }
     let from = read_number(image, POOL_OFFSET_AT) + read_number(image, at + OFFSET_IN_RECORD);

@@ -44,7 +44,7 @@ pub record Countable (w : Stretches) : Type 0 where
   pub after : w .given .end ≤ w .right
   pub short : joinedLength w < 2 ^ 64
 
--- the stretches of a form of that outline, on a reference of length n, of a replacement of so many letters given
+-- the stretches of a form of that outline, on a reference of length n, of a replacement of so many residues given
 unfoldable pub spread : Outline → ℕ → ℕ → ℕ → ℕ → Stretches
 spread o n given start end =
     record {

@@ -97,12 +97,12 @@ pub fn form_of(w: Stretches) -> Form
     ensures { λ r. ⌜ r ≡ formOf w ⌝ }
 {
     let kind = w.kind;
-    let letters = joined_length(w) as u64;
+    let residues = joined_length(w) as u64;
     Form {
         kind,
         start: w.start as u64,
         end: w.end as u64,
-        length: letters,
+        length: residues,
     }
 }
 

@@ -6,10 +6,10 @@ use Prim.Native.Nat.{ℕ}
 abbrev pub referenceLimit : ℕ
 referenceLimit = 1_000_000_000
 
--- letters of a replacement as given
+-- residues of a replacement as given
 abbrev pub replacementLimit : ℕ
 replacementLimit = 1_000_000
 
--- letters of the sequence in an allele text that is read: a reference and a replacement together
+-- residues of the sequence in an allele text that is read: a reference and a replacement together
 abbrev pub sequenceLimit : ℕ
 sequenceLimit = 1_001_000_000

@@ -29,7 +29,7 @@ use Rattle.sequence_identifier.specs.Calls.{Identifies, Finishes}
 -- a state of so many residues, within the limit
 record Taken (state : Running) (residues : List ℕ) : Type 0 where
   fed-is : Fed state residues
-  letters : every residue residues ≡ true
+  residues : every residue residues ≡ true
   within : length residues ≤ referenceLimit
 
 taken-on : (state : Running) (m part : List ℕ) → Taken state m → feeding state part .outcome ≡ Accepted
@@ -47,7 +47,7 @@ taken-on state m part t e =
     rw v
     (record {
       fed-is = fed-on state m part (t .fed-is) (omega arith);
-      letters = rw (every-append residue m part, t .letters) (foreign-none part all);
+      residues = rw (every-append residue m part, t .residues) (foreign-none part all);
       within = omega arith;
     })
 
@@ -60,9 +60,9 @@ all-taken (part ∷ parts) state m t a =
 
 begun-taken : Taken begun []
 unfolding every
-begun-taken = record { fed-is = fed-begun; letters = refl; within = omega arith }
+begun-taken = record { fed-is = fed-begun; residues = refl; within = omega arith }
 
--- letters after those of a state are taken, as long as all of them are within the limit
+-- residues after those of a state are taken, as long as all of them are within the limit
 taken-next : (state : Running) (m part : List ℕ) → Taken state m → length (m ++ part) ≤ referenceLimit
     → every residue part ≡ true → feeding state part .outcome ≡ Accepted
 taken-next state m part t few all =
@@ -110,6 +110,6 @@ cut-anywhere parts a out place answer left f =
     le-ltb referenceLimit (length (joined parts)) (t .within) in
     let none : ltb (foreign (joined parts)) (length (joined parts)) ≡ false =
     le-ltb (foreign (joined parts)) (length (joined parts))
-    (omega (arith, firstOutside-every residue (joined parts) (t .letters))) in
+    (omega (arith, firstOutside-every residue (joined parts) (t .residues))) in
     let whole = finished-is (feedingAll begun parts) (joined parts) (t .fed-is) in
     rw (few, none) (rw (total, few, whole) at f)

@@ -1,4 +1,4 @@
--- A full stop stands for no letters.
+-- A full stop stands for no residues.
 use borrow.Author.Tests.{eq-eqb, ne-eqb}
 use borrow.Author.Needs.{needs}
 use Rattle.answer_line.proofs.reply.form_head.Statement.{statement}

@@ -42,7 +42,7 @@ returns-2 : tie.Need-returns-2
 returns-2 c =
     let s = c .before .before .before .before .before .before in
     let b = s .args .image .now in
-    let n = s .args .letters in
+    let n = s .args .residues in
     let at = poolOffset b in
     let used : n ≡ poolUsed b = c .before .before .before .if1 .left
     ∙ c .before .before .before .before .read-number .ensures .0 in

@@ -16,12 +16,12 @@ use Rattle.image.proofs.records.records_formed.Statement.{statement}
 use Rattle.image.proofs.records.records_formed.Tie as tie
 
 abbrev Inv-loop : tie.InvT-loop
-Inv-loop image issued reference letters₀ passed₀ letters passed =
-    (passed ≤ issued) × (letters ≡ lengths image passed) × (letters ≤ 2 ^ 32 * passed)
+Inv-loop image issued reference letters₀ passed₀ residues passed =
+    (passed ≤ issued) × (residues ≡ lengths image passed) × (residues ≤ 2 ^ 32 * passed)
     × (below (placed image) passed ≡ true)
 
 abbrev μ-loop : tie.MeasureT-loop
-μ-loop image issued reference letters₀ passed₀ letters passed = issued - passed
+μ-loop image issued reference letters₀ passed₀ residues passed = issued - passed
 
 read-number-requires : tie.Need-read-number-requires Inv-loop μ-loop
 read-number-requires c κs = search needs
@@ -70,8 +70,8 @@ read-number-requires-3 c κs =
     (omega (arith, count, s .pre .records)) in
     omega (arith, c .before .before .record-at .ensures .0, inside)
 
-add-letters : tie.Need-add-letters Inv-loop μ-loop
-add-letters c = search needs
+add-residues : tie.Need-add-residues Inv-loop μ-loop
+add-residues c = search needs
 
 add-passed : tie.Need-add-passed Inv-loop μ-loop
 add-passed c = search needs
@@ -119,7 +119,7 @@ records-formed-spec =
     returns
     add-read-number
     read-number-requires-3
-    add-letters
+    add-residues
     add-passed
     loop-less
     loop-again

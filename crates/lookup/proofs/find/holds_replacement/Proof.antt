@@ -1,4 +1,4 @@
--- The lengths first, then the letters in the pool.
+-- The lengths first, then the residues in the pool.
 use native.Mathlib.Omega.{arith}
 use mathlib.Core.Path.{_∙_, sym}
 use lib.ListN.{length-append}

@@ -1,4 +1,4 @@
-"""Prints what the program `vectors` has to print."""
+"""Prints what the program `digest_vectors` has to print."""
 import base64
 import hashlib
 
