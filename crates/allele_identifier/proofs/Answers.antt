@@ -16,7 +16,7 @@ use Rattle.refusal.proofs.WritesUnless.{writes-unless-then, writes-unless-short
 use Rattle.refusal.proofs.Writes.{writes-all}
 use Rattle.refusal.proofs.Verdict.{verdict-first, verdict-then, verdict-fewer, verdict-later, outcome-accepted}
 use Rattle.refusal.proofs.Verdict.{outcome-refused}
-use Rattle.alphabets.specs.Alphabets.{digestTextGrounds, digestTextAnswer, foreignNormal}
+use Rattle.alphabets.specs.Alphabets.{digestTextGrounds, digestTextAnswer, foreignNormal, digestLength}
 use Rattle.alphabets.proofs.DigestText.{digest-long}
 use Rattle.normal_form.specs.declared.Stretches.{Stretches}
 use Rattle.normal_form.specs.Form.{Normal, normal}
@@ -26,7 +26,7 @@ use Rattle.normal_form_calls.specs.declared.Located.{Located}
 use Rattle.normal_form_calls.specs.declared.Located.the-variants.{Accepted as Found, Refused as Unfound}
 use Rattle.normal_form_calls.specs.Calls.{givenGrounds, located, cleanly}
 use Rattle.normal_form_calls.proofs.Answers.{tell-accepted, tell-refused, given-allele, located-form}
-use Rattle.allele_identifier.specs.Identifier.{textOf, identifierOf}
+use Rattle.allele_identifier.specs.Identifier.{textOf, identifierOf, aroundSequence, alleleIdentifierLength}
 use Rattle.allele_identifier.specs.Calls.{alleleGrounds, alleleAnswer, restAnswer, WritesAllele, IdentifiesAllele}
 use Rattle.allele_identifier.proofs.Hashing.{allele-long, length-allele-identifier}
 
@@ -80,7 +80,7 @@ module _ (r : List ℕ) (start end : ℕ) (x digest : List ℕ) where
     pub allele-accepted : verdict (alleleGrounds r start end x digest) ≡ accepted
     allele-accepted = found .0
 
-    pub allele-digest : length digest ≡ 32
+    pub allele-digest : length digest ≡ digestLength
     unfolding alleleGrounds
     allele-digest = digest-long digest
         (verdict-fewer (digestTextGrounds digest) (foreignNormal (normal r start end x .replacement) ∷ [])
@@ -94,24 +94,24 @@ module _ (r : List ℕ) (start end : ℕ) (x digest : List ℕ) where
     allele-form = rw (found .1) (stretches-join r start end x (given-allele r start end x given))
 
     -- 6 after them: the text
-    text-long : joinedLength w + 110 ≡ length (textOf (normal r start end x) digest)
+    text-long : joinedLength w + aroundSequence ≡ length (textOf (normal r start end x) digest)
     text-long =
-        subst (λ (f : Normal). joinedLength w + 110 ≡ length (textOf f digest)) allele-form
+        subst (λ (f : Normal). joinedLength w + aroundSequence ≡ length (textOf f digest)) allele-form
         (allele-long r x w allele-fits digest)
 
     module _ (out : List ℕ) (place : ℕ) where
-      pub text-short : (answer : Written) → answer ≡ Unwritten (record { number = 6; value = joinedLength w + 110 })
-          → ltb (length out) (place + (joinedLength w + 110)) ≡ true
+      pub text-short : (answer : Written) → answer ≡ Unwritten (record { number = 6; value = joinedLength w + aroundSequence })
+          → ltb (length out) (place + (joinedLength w + aroundSequence)) ≡ true
           → WritesAllele r start end x digest out place answer out
       text-short answer a t =
           writes-unless-then _ _ out place answer out allele-accepted
           (writes-unless-short _ out place _ text-long answer a t)
 
-      pub text-laid : (left : List ℕ) → ltb (length out) (place + (joinedLength w + 110)) ≡ false
+      pub text-laid : (left : List ℕ) → ltb (length out) (place + (joinedLength w + aroundSequence)) ≡ false
           → left ≡ over out place (textOf (formIn r x w) digest)
-          → WritesAllele r start end x digest out place (Bytes (joinedLength w + 110)) left
+          → WritesAllele r start end x digest out place (Bytes (joinedLength w + aroundSequence)) left
       text-laid left t l =
-          let n = joinedLength w + 110 in
+          let n = joinedLength w + aroundSequence in
           let e : left ≡ over out place (textOf (normal r start end x) digest)
           = subst (λ (f : Normal). left ≡ over out place (textOf f digest)) allele-form l in
           writes-unless-then _ _ out place (Bytes n) left allele-accepted
@@ -119,18 +119,18 @@ module _ (r : List ℕ) (start end : ℕ) (x digest : List ℕ) where
           (writes-all accepted _ out place n left refl text-long e))
 
       -- and the identifier
-      pub identifier-short : (answer : Written) → answer ≡ Unwritten (record { number = 6; value = 41 })
-          → ltb (length out) (place + 41) ≡ true → IdentifiesAllele r start end x digest out place answer out
+      pub identifier-short : (answer : Written) → answer ≡ Unwritten (record { number = 6; value = alleleIdentifierLength })
+          → ltb (length out) (place + alleleIdentifierLength) ≡ true → IdentifiesAllele r start end x digest out place answer out
       identifier-short answer a t =
           writes-unless-then _ _ out place answer out allele-accepted
-          (writes-unless-short _ out place 41 (sym (length-allele-identifier (normal r start end x) digest)) answer a t)
+          (writes-unless-short _ out place alleleIdentifierLength (sym (length-allele-identifier (normal r start end x) digest)) answer a t)
 
-      pub identifier-written : (answer : Written) (left : List ℕ) → ltb (length out) (place + 41) ≡ false
+      pub identifier-written : (answer : Written) (left : List ℕ) → ltb (length out) (place + alleleIdentifierLength) ≡ false
           → Writes accepted (identifierOf (formIn r x w) digest) out place answer left
           → IdentifiesAllele r start end x digest out place answer left
       identifier-written answer left t p =
           writes-unless-then _ _ out place answer left allele-accepted
-          (writes-unless-room _ out place 41 (sym (length-allele-identifier (normal r start end x) digest)) answer left
+          (writes-unless-room _ out place alleleIdentifierLength (sym (length-allele-identifier (normal r start end x) digest)) answer left
           t
           (subst (λ (f : Normal). Writes accepted (identifierOf f digest) out place answer left) allele-form p))
 

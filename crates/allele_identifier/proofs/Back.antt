@@ -10,7 +10,7 @@ use Rattle.refusal.specs.declared.Written.the-variants.{Bytes}
 use Rattle.refusal.specs.Limits.{sequenceLimit}
 use Rattle.refusal.proofs.Verdict.{none-holds, verdict-fewer, verdict-later}
 use Rattle.refusal.proofs.WritesUnless.{TextWritten, writes-unless-accepted}
-use Rattle.alphabets.specs.Alphabets.{foreign, digestTextGrounds, foreignNormal}
+use Rattle.alphabets.specs.Alphabets.{foreign, digestTextGrounds, foreignNormal, digestLength}
 use Rattle.alphabets.proofs.Foreign.{foreign-le, foreign-none}
 use Rattle.normal_form.specs.Form.{Allele, Normal, normal}
 use Rattle.normal_form.proofs.Laws.{normal-short}
@@ -76,7 +76,7 @@ module _ (r : List ℕ) (start end : ℕ) (x digest out : List ℕ) (place k : �
   pub allele-back : (answer : AlleleRead) → ReadsAllele (part left place (place + k)) answer
       → answer ≡ Accepted (record {
         location = length beforeLocation;
-        sequence = length beforeLocation + 32 + length beforeSequence;
+        sequence = length beforeLocation + digestLength + length beforeSequence;
         length = length (form .replacement);
       })
   unfolding textOf

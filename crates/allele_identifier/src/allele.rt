@@ -1,5 +1,6 @@
 // The text and the identifier of an allele, in its normal form.
 use super::hash::form_hash;
+use alphabets::DIGEST_LENGTH;
 use alphabets::check_digest_text;
 use digest_text::place_identifier;
 use location_identifier::location_digest;
@@ -16,22 +17,23 @@ use refusal::Outcome;
 use refusal::Written;
 use refusal::refuse;
 use refusal::sum_exceeds;
+use text::ALLELE_WORDS;
 use text::write_allele;
 ghost use mathlib.Core.Path.{_≡_};
 ghost use Prim.Native.Nat.{_+_, _≤_};
 ghost use lib.ListN.{length};
 ghost use Rattle.stretch.specs.Over.{over};
+ghost use Rattle.alphabets.specs.Alphabets.{digestLength};
 ghost use Rattle.normal_form.specs.Stretches.{Fits, joinedLength, formIn};
-ghost use Rattle.allele_identifier.specs.Identifier.{textOf};
+ghost use Rattle.allele_identifier.specs.Identifier.{aroundSequence, textOf};
 ghost use Rattle.allele_identifier.specs.Calls.{alleleAnswer, restAnswer, WritesAllele, IdentifiesAllele};
 
 const ALLELE_PREFIX: [u8; 9] = *b"ga4gh:VA.";
 
-// The prefix and 32 characters.
-const IDENTIFIER_LENGTH: u64 = 41;
+const IDENTIFIER_LENGTH: u64 = (ALLELE_PREFIX.len() + DIGEST_LENGTH) as u64;
 
 // The bytes of an allele text around its sequence: its words, and the location's digest.
-const AROUND_SEQUENCE: usize = 110;
+const AROUND_SEQUENCE: usize = ALLELE_WORDS + DIGEST_LENGTH;
 
 // The tests 7, 5.
 fn check_rest(reference: &[u8], replacement: &[u8], digest: &[u8], w: Stretches) -> Located
@@ -70,8 +72,8 @@ fn write_text(
     at: usize,
 )
     requires { ⌜ Fits (now reference) (now replacement) w ⌝ }
-    requires { ⌜ length (now digest) ≡ 32 ⌝ }
-    requires { ⌜ at + (joinedLength w + 110) ≤ length (now out) ⌝ }
+    requires { ⌜ length (now digest) ≡ digestLength ⌝ }
+    requires { ⌜ at + (joinedLength w + aroundSequence) ≤ length (now out) ⌝ }
     ensures { λ _. ⌜ now (out .exit) ≡ over (now (out .entry)) at (textOf (formIn (now (reference .entry)) (now (replacement .entry)) w) (now (digest .entry))) ⌝ }
 {
     let location = location_digest(w.start as u64, w.end as u64, digest);

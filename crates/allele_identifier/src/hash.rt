@@ -11,14 +11,15 @@ ghost use mathlib.Core.Path.{_≡_};
 ghost use mathlib.Core.List.{_++_};
 ghost use Prim.Native.Nat.{_+_, _^_, _<_};
 ghost use lib.ListN.{length};
+ghost use Rattle.alphabets.specs.Alphabets.{digestLength};
 ghost use Rattle.normal_form.specs.Stretches.{Fits, formIn};
 ghost use Rattle.sha512.specs.Message.{sha512};
-ghost use Rattle.text.specs.Layout.{alleleText};
+ghost use Rattle.text.specs.Layout.{alleleText, alleleWords};
 ghost use Rattle.allele_identifier.specs.Identifier.{textOf};
 
 // The hash of an allele text whose replacement comes in three stretches.
 fn allele_hash(location: &[u8], a: &[u8], b: &[u8], c: &[u8]) -> [u8; 64]
-    requires { ⌜ length (now location) + (length (now a) + (length (now b) + (length (now c) + 78))) < 2 ^ 64 ⌝ }
+    requires { ⌜ length (now location) + (length (now a) + (length (now b) + (length (now c) + alleleWords))) < 2 ^ 64 ⌝ }
     ensures { λ r. ⌜ r ≡ sha512 (alleleText (now (location .entry)) (now (a .entry) ++ (now (b .entry) ++ now (c .entry)))) ⌝ }
 {
     let head = sha512::feed(sha512::begin(), &BEFORE_LOCATION);
@@ -33,7 +34,7 @@ fn allele_hash(location: &[u8], a: &[u8], b: &[u8], c: &[u8]) -> [u8; 64]
 // The hash of the text of the form that the stretches hold.
 pub fn form_hash(reference: &[u8], replacement: &[u8], digest: &[u8], w: Stretches) -> [u8; 64]
     requires { ⌜ Fits (now reference) (now replacement) w ⌝ }
-    requires { ⌜ length (now digest) ≡ 32 ⌝ }
+    requires { ⌜ length (now digest) ≡ digestLength ⌝ }
     ensures { λ r. ⌜ r ≡ sha512 (textOf (formIn (now (reference .entry)) (now (replacement .entry)) w) (now (digest .entry))) ⌝ }
 {
     let location = location_digest(w.start as u64, w.end as u64, digest);

@@ -23,7 +23,7 @@ use Rattle.decimals.proofs.Digits.{decimal-within}
 use Rattle.fields.specs.Cut.{parted, onFirst}
 use Rattle.input_line.specs.Meaning.{Meaning, unread, allele, space, replacementOf, numbered, meaningOfFields}
 use Rattle.input_line.specs.Meaning.{meaningOf}
-use Rattle.answer_line.specs.Answers.{shown, formReply, verdictText, meaningText, answerLine, beyond}
+use Rattle.answer_line.specs.Answers.{shown, formReply, verdictText, meaningText, answerLine, beyond, frontRoom}
 use Rattle.answer_line.proofs.Laying.{word-short}
 
 -- no piece is longer than the text
@@ -91,7 +91,7 @@ shown-short : (x : List ℕ) → length (shown x) ≤ length x + 1
 shown-short [] = omega arith
 shown-short (c ∷ x) = omega arith
 
-form-short : (f : Normal) → f .start < 2 ^ 64 → f .end < 2 ^ 64 → length (formReply f) ≤ 56 + length (f .replacement)
+form-short : (f : Normal) → f .start < 2 ^ 64 → f .end < 2 ^ 64 → length (formReply f) ≤ frontRoom + length (f .replacement)
 form-short f h g = simp length-append
     (omega (
       arith,
@@ -107,7 +107,7 @@ module _ (r : List ℕ) (start end : ℕ) (x : List ℕ) where
   five = refl
 
   verdict-short : (v : Verdict) → verdict (formGrounds r start end x) ≡ v
-      → length (verdictText v (normal r start end x)) ≤ length r + length x + 56
+      → length (verdictText v (normal r start end x)) ≤ length r + length x + frontRoom
   verdict-short (refused q) e =
       let l : q .number ≤ 5 = number-within 5 (formGrounds r start end x) q five e in
       simp length-append (omega (arith, decimal-within (q .number) (omega arith)))
@@ -126,7 +126,7 @@ module _ (r : List ℕ) (start end : ℕ) (x : List ℕ) where
       )
 
 text-short : (r line : List ℕ) (s : Meaning) → meaningOf line ≡ s
-    → length (meaningText r s) ≤ length r + length line + 56
+    → length (meaningText r s) ≤ length r + length line + frontRoom
 unfolding meaningOf
 text-short r line unread e = omega arith
 text-short r line (allele start end x) e =

@@ -44,11 +44,14 @@ meaningText r (allele start end x) = alleleReply r start end x
 unfoldable pub answerLine : List ℕ → List ℕ → List ℕ
 answerLine r line = meaningText r (meaningOf line) ++ (lineFeed ∷ [])
 
--- the most bytes that an answer has more than the reference and the line together: two numbers of 20 digits, a kind of
--- 12 letters,
--- three spaces, a full stop and a line feed
+-- the most bytes of an answer before its replacement: two numbers of 20 digits, a kind of 12 letters, three spaces and a
+-- full stop
+abbrev pub frontRoom : ℕ
+frontRoom = 56
+
+-- the most bytes that an answer has more than the reference and the line together: these, and a line feed
 abbrev pub beyond : ℕ
-beyond = 57
+beyond = frontRoom + 1
 
 -- a buffer that has room for the answer
 abbrev pub Room : List ℕ → List ℕ → List ℕ → Type 0

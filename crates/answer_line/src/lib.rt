@@ -7,5 +7,8 @@ mod write;
 
 pub use reply::answer;
 
-// The most bytes that an answer has more than the reference and the line together.
-pub const BEYOND: usize = 57;
+// The most bytes of an answer before its replacement.
+const FRONT_ROOM: usize = 56;
+
+// The most bytes that an answer has more than the reference and the line together: these, and a line feed.
+pub const BEYOND: usize = FRONT_ROOM + 1;

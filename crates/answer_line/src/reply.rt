@@ -18,14 +18,14 @@ ghost use lib.ListN.{length};
 ghost use Rattle.stretch.specs.Over.{Wrote};
 ghost use Rattle.normal_form.specs.Stretches.{Fits, formIn};
 ghost use Rattle.input_line.specs.Meaning.{lineFeed};
-ghost use Rattle.answer_line.specs.Answers.{formReply, alleleReply, answerLine, Room};
+ghost use Rattle.answer_line.specs.Answers.{formReply, alleleReply, answerLine, Room, frontRoom};
 ghost use Rattle.answer_line.specs.Inner.{head, stop};
 
 // The front of a form whose replacement has so many residues.
 fn form_head(out: &mut [u8], w: Stretches, residues: usize) -> usize
-    requires { ⌜ 56 ≤ length (now out) ⌝ }
+    requires { ⌜ frontRoom ≤ length (now out) ⌝ }
     ensures { λ r. ⌜ Wrote (now (out .entry)) 0 (head (w .start) (w .end) (w .kind) (stop residues)) (now (out .exit)) r ⌝ }
-    ensures { λ r. ⌜ r ≤ 56 ⌝ }
+    ensures { λ r. ⌜ r ≤ frontRoom ⌝ }
 {
     let kind = w.kind;
     if residues == 0 {

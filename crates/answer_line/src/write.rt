@@ -9,7 +9,7 @@ ghost use lib.ListN.{length};
 ghost use Rattle.stretch.specs.Over.{Wrote};
 ghost use Rattle.decimals.specs.Decimal.{decimal};
 ghost use Rattle.input_line.specs.Meaning.{lineFeed};
-ghost use Rattle.answer_line.specs.Answers.{word};
+ghost use Rattle.answer_line.specs.Answers.{word, frontRoom};
 ghost use Rattle.answer_line.specs.Inner.{head, refusedLine};
 
 // A number, and one byte after it.
@@ -35,9 +35,9 @@ fn put_word(out: &mut [u8], at: usize, kind: Kind) -> usize
 
 // The front of an answer, up to its replacement.
 pub fn write_head(out: &mut [u8], start: u64, end: u64, kind: Kind, behind: &[u8]) -> usize
-    requires { ⌜ (56 ≤ length (now out)) × (length (now behind) ≤ 2) ⌝ }
+    requires { ⌜ (frontRoom ≤ length (now out)) × (length (now behind) ≤ 2) ⌝ }
     ensures { λ r. ⌜ Wrote (now (out .entry)) 0 (head start end kind (now (behind .entry))) (now (out .exit)) r ⌝ }
-    ensures { λ r. ⌜ r ≤ 56 ⌝ }
+    ensures { λ r. ⌜ r ≤ frontRoom ⌝ }
 {
     let a = put_number(out, 0, start, b' ');
     let b = put_number(out, a, end, b' ');

@@ -14,7 +14,7 @@ use Rattle.refusal.specs.Verdict.{ground, accepted, verdict}
 use Rattle.refusal.proofs.Verdict.{none-holds, verdict-first, verdict-then, verdict-fewer, verdict-later}
 use Rattle.refusal.proofs.Verdict.{outcome-accepted, outcome-refused}
 use Rattle.stretch.specs.Class.{every}
-use Rattle.alphabets.specs.Alphabets.{base64url, digestTextGrounds, digestTextAnswer}
+use Rattle.alphabets.specs.Alphabets.{base64url, digestTextGrounds, digestTextAnswer, digestLength}
 use Rattle.alphabets.proofs.DigestText.{digest-long, digest-all}
 use Rattle.image.specs.Fields.{headerSize, countLimit, poolLimit, imageSize}
 use Rattle.image.proofs.Arranged.{header-journal, journal-pool}
@@ -44,7 +44,7 @@ module _ (room n : ℕ) (digest : List ℕ) (records journal pool : ℕ) where
 -- an accepted blank: the reference's length and the capacities within their limits, 32 base64url characters, and room
 pub record Blankable (room n : ℕ) (digest : List ℕ) (records journal pool : ℕ) : Type 0 where
   pub reference : n ≤ referenceLimit
-  pub long : length digest ≡ 32
+  pub long : length digest ≡ digestLength
   pub characters : every base64url digest ≡ true
   pub records-limit : records ≤ countLimit
   pub journal-limit : journal ≤ countLimit

@@ -23,6 +23,7 @@ use stretch::copy_at;
 ghost use mathlib.Core.Path.{_≡_};
 ghost use Prim.Native.Nat.{_≤_};
 ghost use lib.ListN.{length};
+ghost use Rattle.alphabets.specs.Alphabets.{digestLength};
 ghost use Rattle.image.specs.Fields.{headerSize, countLimit};
 ghost use Rattle.changes.specs.Changes.{blanked};
 ghost use Rattle.blank.specs.Calls.{Blanks};
@@ -76,7 +77,7 @@ fn write_header(
     journal: usize,
     pool: usize,
 )
-    requires { ⌜ (headerSize ≤ length (now image)) × (length (now digest) ≡ 32) ⌝ }
+    requires { ⌜ (headerSize ≤ length (now image)) × (length (now digest) ≡ digestLength) ⌝ }
     requires { ⌜ (records ≤ countLimit) × (journal ≤ countLimit) ⌝ }
     ensures { λ _. ⌜ now (image .exit) ≡ blanked (now (image .entry)) residues (now (digest .entry)) records journal pool ⌝ }
 {

@@ -5,6 +5,7 @@ use mathlib.Core.Path.{_≡_, _∙_, sym, ap}
 use mathlib.Core.List.{List, [], _∷_, _++_}
 use lib.ListN.{length, getD, take, length-append}
 use lib.Seq.{drop-at, take-length}
+use Rattle.alphabets.specs.Alphabets.{digestLength}
 use Rattle.stretch.proofs.Over.{length-over}
 use Rattle.stretch.proofs.Through.{part-laid}
 use Rattle.refusal.specs.Limits.{referenceLimit}
@@ -32,7 +33,7 @@ fields n records journal pool =
     ∷ n
     ∷ []
 
-module _ (b : List ℕ) (n : ℕ) (digest : List ℕ) (records journal pool : ℕ) (whole : length digest ≡ 32)
+module _ (b : List ℕ) (n : ℕ) (digest : List ℕ) (records journal pool : ℕ) (whole : length digest ≡ digestLength)
     (room : headerSize ≤ length b) where
   abbrev header : List ℕ
   header = numbers (fields n records journal pool) ++ digest
@@ -59,12 +60,12 @@ module _ (b : List ℕ) (n : ℕ) (digest : List ℕ) (records journal pool : �
   blanked-digest =
       let vs = fields n records journal pool in
       part-laid b 0 header (omega arith) digestPlace headerSize (omega arith) (omega (arith, header-length))
-      ∙ ap (take 32) (drop-at (numbers vs) digest digestPlace (length-numbers vs))
+      ∙ ap (take digestLength) (drop-at (numbers vs) digest digestPlace (length-numbers vs))
       ∙ ap (λ (k : ℕ). take k digest) (sym whole)
       ∙ take-length digest
 
 pub blanked-seen : (b : List ℕ) (n : ℕ) (digest : List ℕ) (records journal pool : ℕ)
-    → length digest ≡ 32 → records ≤ countLimit → journal ≤ countLimit → pool ≤ poolLimit → n ≤ referenceLimit
+    → length digest ≡ digestLength → records ≤ countLimit → journal ≤ countLimit → pool ≤ poolLimit → n ≤ referenceLimit
     → imageSize records journal pool ≤ length b
     → Fresh (length b) n digest records journal pool (blanked b n digest records journal pool)
 blanked-seen b n digest records journal pool whole r j p l size =

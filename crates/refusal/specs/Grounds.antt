@@ -1,6 +1,5 @@
 -- Document 01, "Turned away": the grounds 1, 2, 3 and 6, which calls share. Those on bytes stand with their alphabets
--- in `alphabets`, those
--- on an image in `changes`.
+-- in `alphabets`, those on an image in `changes`.
 use Prim.Native.Nat.{ℕ, _+_}
 use lib.Dec.{ltb}
 use Rattle.refusal.specs.Limits.{referenceLimit, replacementLimit}

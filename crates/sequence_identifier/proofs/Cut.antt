@@ -27,10 +27,10 @@ use Rattle.sequence_identifier.specs.Calls.{referenceGrounds, partGround
 use Rattle.sequence_identifier.specs.Calls.{Identifies, Finishes}
 
 -- a state of so many residues, within the limit
-record Taken (state : Running) (residues : List ℕ) : Type 0 where
-  fed-is : Fed state residues
-  residues : every residue residues ≡ true
-  within : length residues ≤ referenceLimit
+record Taken (state : Running) (m : List ℕ) : Type 0 where
+  fed-is : Fed state m
+  residues : every residue m ≡ true
+  within : length m ≤ referenceLimit
 
 taken-on : (state : Running) (m part : List ℕ) → Taken state m → feeding state part .outcome ≡ Accepted
     → Taken (feeding state part .state) (m ++ part)

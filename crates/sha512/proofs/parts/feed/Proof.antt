@@ -80,11 +80,11 @@ unfolding waiting
 returns-3 c =
     let c₄ = c .before .before .before .before in
     let c₁₂ = c₄ .before .before .before .before .before .before .before .before in
-    let b : length (c₁₂ .before .before .args .state .block) ≡ 128 = block-long c₁₂ .before .before in
+    let s = c₁₂ .before .before in
+    let b : length (s .args .state .block) ≡ 128 = block-long s in
     c .feed-aligned2 .ensures
     ∙ rw (lent-tail, c .before .before .absorb .ensures, c₄ .fill2 .ensures, c₁₂ .wrapping-add-u64 .ensures)
-    (fed-past (c₁₂ .before .before .args .state) (c₁₂ .before .before .args .part .now)
-    (128 - c₁₂ .before .before .args .state .total % 128)
+    (fed-past (s .args .state) (s .args .part .now) (128 - s .args .state .total % 128)
     (rw (length-append, length-take, length-take) (omega arith)))
 
 pub feed-spec : {M : Type 1} → statement M
