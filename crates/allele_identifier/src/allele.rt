@@ -54,7 +54,8 @@ fn check_allele(
     replacement: &[u8],
     digest: &[u8],
 ) -> Located
-    ensures { λ r. ⌜ r ≡ alleleAnswer (now (reference .entry)) start end (now (replacement .entry)) (now (digest .entry)) ⌝ }
+    ensures { λ r. ⌜
+        r ≡ alleleAnswer (now (reference .entry)) start end (now (replacement .entry)) (now (digest .entry)) ⌝ }
 {
     match locate(reference, start, end, replacement) {
         Located::Accepted(w) => check_rest(reference, replacement, digest, w),
@@ -74,7 +75,9 @@ fn write_text(
     requires { ⌜ Fits (now reference) (now replacement) w ⌝ }
     requires { ⌜ length (now digest) ≡ digestLength ⌝ }
     requires { ⌜ at + (joinedLength w + aroundSequence) ≤ length (now out) ⌝ }
-    ensures { λ _. ⌜ now (out .exit) ≡ over (now (out .entry)) at (textOf (formIn (now (reference .entry)) (now (replacement .entry)) w) (now (digest .entry))) ⌝ }
+    ensures { λ _. ⌜
+        now (out .exit) ≡ over (now (out .entry)) at
+        (textOf (formIn (now (reference .entry)) (now (replacement .entry)) w) (now (digest .entry))) ⌝ }
 {
     let location = location_digest(w.start as u64, w.end as u64, digest);
     write_allele(
@@ -96,7 +99,9 @@ pub fn allele_text(
     out: &mut [u8],
     place: u64,
 ) -> Written
-    ensures { λ r. ⌜ WritesAllele (now (reference .entry)) start end (now (replacement .entry)) (now (digest .entry)) (now (out .entry)) place r (now (out .exit)) ⌝ }
+    ensures { λ r. ⌜
+        WritesAllele (now (reference .entry)) start end (now (replacement .entry)) (now (digest .entry))
+        (now (out .entry)) place r (now (out .exit)) ⌝ }
 {
     match check_allele(reference, start, end, replacement, digest) {
         Located::Accepted(w) => {
@@ -121,7 +126,9 @@ pub fn allele_identifier(
     out: &mut [u8],
     place: u64,
 ) -> Written
-    ensures { λ r. ⌜ IdentifiesAllele (now (reference .entry)) start end (now (replacement .entry)) (now (digest .entry)) (now (out .entry)) place r (now (out .exit)) ⌝ }
+    ensures { λ r. ⌜
+        IdentifiesAllele (now (reference .entry)) start end (now (replacement .entry)) (now (digest .entry))
+        (now (out .entry)) place r (now (out .exit)) ⌝ }
 {
     match check_allele(reference, start, end, replacement, digest) {
         Located::Accepted(w) => {

@@ -19,8 +19,10 @@ ghost use Rattle.allele_identifier.specs.Identifier.{textOf};
 
 // The hash of an allele text whose replacement comes in three stretches.
 fn allele_hash(location: &[u8], a: &[u8], b: &[u8], c: &[u8]) -> [u8; 64]
-    requires { ⌜ length (now location) + (length (now a) + (length (now b) + (length (now c) + alleleWords))) < 2 ^ 64 ⌝ }
-    ensures { λ r. ⌜ r ≡ sha512 (alleleText (now (location .entry)) (now (a .entry) ++ (now (b .entry) ++ now (c .entry)))) ⌝ }
+    requires { ⌜
+        length (now location) + (length (now a) + (length (now b) + (length (now c) + alleleWords))) < 2 ^ 64 ⌝ }
+    ensures { λ r. ⌜
+        r ≡ sha512 (alleleText (now (location .entry)) (now (a .entry) ++ (now (b .entry) ++ now (c .entry)))) ⌝ }
 {
     let head = sha512::feed(sha512::begin(), &BEFORE_LOCATION);
     let located = sha512::feed(head, location);
@@ -35,7 +37,8 @@ fn allele_hash(location: &[u8], a: &[u8], b: &[u8], c: &[u8]) -> [u8; 64]
 pub fn form_hash(reference: &[u8], replacement: &[u8], digest: &[u8], w: Stretches) -> [u8; 64]
     requires { ⌜ Fits (now reference) (now replacement) w ⌝ }
     requires { ⌜ length (now digest) ≡ digestLength ⌝ }
-    ensures { λ r. ⌜ r ≡ sha512 (textOf (formIn (now (reference .entry)) (now (replacement .entry)) w) (now (digest .entry))) ⌝ }
+    ensures { λ r. ⌜
+        r ≡ sha512 (textOf (formIn (now (reference .entry)) (now (replacement .entry)) w) (now (digest .entry))) ⌝ }
 {
     let location = location_digest(w.start as u64, w.end as u64, digest);
     allele_hash(

@@ -24,7 +24,8 @@ ghost use Rattle.answer_line.specs.Inner.{head, stop};
 // The front of a form whose replacement has so many residues.
 fn form_head(out: &mut [u8], w: Stretches, residues: usize) -> usize
     requires { ⌜ frontRoom ≤ length (now out) ⌝ }
-    ensures { λ r. ⌜ Wrote (now (out .entry)) 0 (head (w .start) (w .end) (w .kind) (stop residues)) (now (out .exit)) r ⌝ }
+    ensures { λ r. ⌜
+        Wrote (now (out .entry)) 0 (head (w .start) (w .end) (w .kind) (stop residues)) (now (out .exit)) r ⌝ }
     ensures { λ r. ⌜ r ≤ frontRoom ⌝ }
 {
     let kind = w.kind;
@@ -37,7 +38,10 @@ fn form_head(out: &mut [u8], w: Stretches, residues: usize) -> usize
 fn answer_form(reference: &[u8], replacement: &[u8], w: Stretches, out: &mut [u8]) -> usize
     requires { ⌜ Fits (now reference) (now replacement) w ⌝ }
     requires { ⌜ Room (now reference) (now replacement) (now out) ⌝ }
-    ensures { λ r. ⌜ Wrote (now (out .entry)) 0 (formReply (formIn (now (reference .entry)) (now (replacement .entry)) w) ++ (lineFeed ∷ [])) (now (out .exit)) r ⌝ }
+    ensures { λ r. ⌜
+        Wrote (now (out .entry)) 0
+        (formReply (formIn (now (reference .entry)) (now (replacement .entry)) w) ++ (lineFeed ∷ []))
+        (now (out .exit)) r ⌝ }
 {
     let at = form_head(out, w, joined_length(w));
     put_line(
@@ -57,7 +61,10 @@ fn answer_allele(
     out: &mut [u8],
 ) -> usize
     requires { ⌜ Room (now reference) (now replacement) (now out) ⌝ }
-    ensures { λ r. ⌜ Wrote (now (out .entry)) 0 (alleleReply (now (reference .entry)) start end (now (replacement .entry)) ++ (lineFeed ∷ [])) (now (out .exit)) r ⌝ }
+    ensures { λ r. ⌜
+        Wrote (now (out .entry)) 0
+        (alleleReply (now (reference .entry)) start end (now (replacement .entry)) ++ (lineFeed ∷ []))
+        (now (out .exit)) r ⌝ }
 {
     match locate_clean(reference, start, end, replacement) {
         Located::Accepted(w) => answer_form(reference, replacement, w, out),
@@ -68,7 +75,8 @@ fn answer_allele(
 // Writes the line that answers `line` at the front of `out`, its line feed too, and answers how long it is.
 pub fn answer(reference: &[u8], line: &[u8], out: &mut [u8]) -> usize
     requires { ⌜ Room (now reference) (now line) (now out) ⌝ }
-    ensures { λ r. ⌜ Wrote (now (out .entry)) 0 (answerLine (now (reference .entry)) (now (line .entry))) (now (out .exit)) r ⌝ }
+    ensures { λ r. ⌜
+        Wrote (now (out .entry)) 0 (answerLine (now (reference .entry)) (now (line .entry))) (now (out .exit)) r ⌝ }
 {
     let says = read_line(line);
     match says {

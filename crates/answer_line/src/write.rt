@@ -56,7 +56,9 @@ pub fn write_refused(out: &mut [u8], number: u64) -> usize
 // Three stretches from `at` on, and the line feed after them.
 pub fn put_line(out: &mut [u8], at: usize, a: &[u8], b: &[u8], c: &[u8]) -> usize
     requires { ⌜ at + (length (now a) + (length (now b) + length (now c))) < length (now out) ⌝ }
-    ensures { λ r. ⌜ Wrote (now (out .entry)) at ((now (a .entry) ++ (now (b .entry) ++ now (c .entry))) ++ (lineFeed ∷ [])) (now (out .exit)) r ⌝ }
+    ensures { λ r. ⌜
+        Wrote (now (out .entry)) at ((now (a .entry) ++ (now (b .entry) ++ now (c .entry))) ++ (lineFeed ∷ []))
+        (now (out .exit)) r ⌝ }
 {
     let last = put_three(out, at, a, b, c);
     out[last] = b'\n';

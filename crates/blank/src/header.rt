@@ -79,7 +79,8 @@ fn write_header(
 )
     requires { ⌜ (headerSize ≤ length (now image)) × (length (now digest) ≡ digestLength) ⌝ }
     requires { ⌜ (records ≤ countLimit) × (journal ≤ countLimit) ⌝ }
-    ensures { λ _. ⌜ now (image .exit) ≡ blanked (now (image .entry)) residues (now (digest .entry)) records journal pool ⌝ }
+    ensures { λ _. ⌜
+        now (image .exit) ≡ blanked (now (image .entry)) residues (now (digest .entry)) records journal pool ⌝ }
 {
     put_four(image, EDITION_AT, FIRST_EDITION, records, 0, HEADER_SIZE);
     put_four(
@@ -105,7 +106,8 @@ pub fn blank(
     journal: u64,
     pool: u64,
 ) -> Outcome
-    ensures { λ r. ⌜ Blanks (now (image .entry)) residues (now (digest .entry)) records journal pool r (now (image .exit)) ⌝ }
+    ensures { λ r. ⌜
+        Blanks (now (image .entry)) residues (now (digest .entry)) records journal pool r (now (image .exit)) ⌝ }
 {
     match check_blank(image.len() as u64, residues, digest, records, journal, pool) {
         Outcome::Accepted => {

@@ -48,7 +48,9 @@ pub fn mark(image: &mut [u8], number: usize, status: usize)
 // Puts a number in the journal that begins at `at`, after so many entries, and counts it.
 fn journal(image: &mut [u8], at: usize, count: usize, number: usize)
     requires { ⌜ (headerSize ≤ at) × (count < countLimit) × (at + entrySize * count + 4 ≤ length (now image)) ⌝ }
-    ensures { λ _. ⌜ now (image .exit) ≡ put (put (now (image .entry)) (at + entrySize * count) number) journalCountPlace (count + 1) ⌝ }
+    ensures { λ _. ⌜
+        now (image .exit) ≡ put (put (now (image .entry)) (at + entrySize * count) number) journalCountPlace
+        (count + 1) ⌝ }
 {
     put_number(&mut image[at..], ENTRY_SIZE * count, number);
     put_number(image, JOURNAL_COUNT_AT, count + 1);
@@ -59,7 +61,8 @@ pub fn change(image: &mut [u8], number: usize, status: usize)
     requires { ⌜ Header (now image) ⌝ }
     requires { ⌜ (1 ≤ number) × (number ≤ issued (now image)) ⌝ }
     requires { ⌜ journalCount (now image) < journalCapacity (now image) ⌝ }
-    ensures { λ _. ⌜ now (image .exit) ≡ journalled (now (image .entry)) (marked (now (image .entry)) number status) number ⌝ }
+    ensures { λ _. ⌜
+        now (image .exit) ≡ journalled (now (image .entry)) (marked (now (image .entry)) number status) number ⌝ }
 {
     let at = read_number(image, JOURNAL_OFFSET_AT);
     let count = read_number(image, JOURNAL_COUNT_AT);
@@ -70,7 +73,9 @@ pub fn change(image: &mut [u8], number: usize, status: usize)
 // Puts an active record of a form whose replacement stands in the pool from `offset` on.
 fn put_record(image: &mut [u8], at: usize, form: Form, offset: usize)
     requires { ⌜ at + statusInRecord + 4 ≤ length (now image) ⌝ }
-    ensures { λ _. ⌜ now (image .exit) ≡ over (now (image .entry)) at (recordOf (form .start) (form .end) offset (form .length) active) ⌝ }
+    ensures { λ _. ⌜
+        now (image .exit) ≡ over (now (image .entry)) at
+        (recordOf (form .start) (form .end) offset (form .length) active) ⌝ }
 {
     put_four(
         image,
@@ -86,7 +91,8 @@ fn put_record(image: &mut [u8], at: usize, form: Form, offset: usize)
 // Puts a replacement in the pool.
 fn put_replacement(image: &mut [u8], at: usize, a: &[u8], b: &[u8], c: &[u8])
     requires { ⌜ at + (length (now a) + (length (now b) + length (now c))) ≤ length (now image) ⌝ }
-    ensures { λ _. ⌜ now (image .exit) ≡ over (now (image .entry)) at (now (a .entry) ++ (now (b .entry) ++ now (c .entry))) ⌝ }
+    ensures { λ _. ⌜
+        now (image .exit) ≡ over (now (image .entry)) at (now (a .entry) ++ (now (b .entry) ++ now (c .entry))) ⌝ }
 {
     put_three(&mut image[at..], 0, a, b, c);
 }
@@ -104,8 +110,13 @@ fn put_counts(image: &mut [u8], issued: usize, used: usize)
 pub fn number_form(image: &mut [u8], form: Form, a: &[u8], b: &[u8], c: &[u8])
     requires { ⌜ Header (now image) ⌝ }
     requires { ⌜ form .length ≡ length (now a) + (length (now b) + length (now c)) ⌝ }
-    requires { ⌜ (issued (now image) < recordCapacity (now image)) × (poolUsed (now image) + form .length ≤ poolCapacity (now image)) × (journalCount (now image) < journalCapacity (now image)) ⌝ }
-    ensures { λ _. ⌜ now (image .exit) ≡ numbered (now (image .entry)) (asked form (now (a .entry)) (now (b .entry)) (now (c .entry))) ⌝ }
+    requires { ⌜
+        (issued (now image) < recordCapacity (now image))
+        × (poolUsed (now image) + form .length ≤ poolCapacity (now image))
+        × (journalCount (now image) < journalCapacity (now image)) ⌝ }
+    ensures { λ _. ⌜
+        now (image .exit) ≡ numbered (now (image .entry))
+        (asked form (now (a .entry)) (now (b .entry)) (now (c .entry))) ⌝ }
 {
     let number = read_number(image, ISSUED_AT) + 1;
     let used = read_number(image, POOL_USED_AT);

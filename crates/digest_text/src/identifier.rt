@@ -17,7 +17,8 @@ ghost use Rattle.digest_text.specs.Digest.{digestText};
 pub fn write_identifier(out: &mut [u8], prefix: &[u8], digest: &[u8])
     requires { ⌜ length (now prefix) + digestLength ≤ length (now out) ⌝ }
     requires { ⌜ 24 ≤ length (now digest) ⌝ }
-    ensures { λ _. ⌜ now (out .exit) ≡ over (now (out .entry)) 0 (now (prefix .entry) ++ digestText (now (digest .entry))) ⌝ }
+    ensures { λ _. ⌜
+        now (out .exit) ≡ over (now (out .entry)) 0 (now (prefix .entry) ++ digestText (now (digest .entry))) ⌝ }
 {
     copy(out, prefix);
     write_digest_text(&mut out[prefix.len()..], digest);
@@ -27,7 +28,9 @@ pub fn write_identifier(out: &mut [u8], prefix: &[u8], digest: &[u8])
 pub fn place_identifier(out: &mut [u8], place: u64, prefix: &[u8], digest: &[u8]) -> Written
     requires { ⌜ place + (length (now prefix) + digestLength) ≤ length (now out) ⌝ }
     requires { ⌜ 24 ≤ length (now digest) ⌝ }
-    ensures { λ r. ⌜ Writes accepted (now (prefix .entry) ++ digestText (now (digest .entry))) (now (out .entry)) place r (now (out .exit)) ⌝ }
+    ensures { λ r. ⌜
+        Writes accepted (now (prefix .entry) ++ digestText (now (digest .entry))) (now (out .entry)) place r
+        (now (out .exit)) ⌝ }
 {
     let from = place as usize;
     write_identifier(&mut out[from..], prefix, digest);

@@ -1,5 +1,6 @@
 // How a digest is written down: sha512t24u, its first 24 bytes as 32 characters, and an identifier, a
-// prefix before them. Crates `sequence_identifier`, `location_identifier` and `allele_identifier` write their identifiers by it.
+// prefix before them. Crates `sequence_identifier`, `location_identifier` and `allele_identifier` write
+// their identifiers by it.
 //
 // specs/Base64.antt has the characters, specs/Digest.antt the digest.
 mod base64;

@@ -76,7 +76,9 @@ fn enter_stretches(image: &mut [u8], reference: &[u8], replacement: &[u8], w: St
     requires { ⌜ Header (now image) ⌝ }
     requires { ⌜ wellFormed (now image) ≡ true ⌝ }
     requires { ⌜ Fits (now reference) (now replacement) w ⌝ }
-    ensures { λ r. ⌜ EntersForm (now (image .entry)) (formIn (now (reference .entry)) (now (replacement .entry)) w) r (now (image .exit)) ⌝ }
+    ensures { λ r. ⌜
+        EntersForm (now (image .entry)) (formIn (now (reference .entry)) (now (replacement .entry)) w) r
+        (now (image .exit)) ⌝ }
 {
     enter_form(
         image,
@@ -97,7 +99,9 @@ fn enter_allele(
 ) -> Entered
     requires { ⌜ Header (now image) ⌝ }
     requires { ⌜ wellFormed (now image) ≡ true ⌝ }
-    ensures { λ r. ⌜ EntersAllele (now (image .entry)) (now (reference .entry)) start end (now (replacement .entry)) r (now (image .exit)) ⌝ }
+    ensures { λ r. ⌜
+        EntersAllele (now (image .entry)) (now (reference .entry)) start end (now (replacement .entry)) r
+        (now (image .exit)) ⌝ }
 {
     match check_change(reference, start, end, replacement) {
         Located::Accepted(w) => enter_stretches(image, reference, replacement, w),
@@ -114,7 +118,9 @@ pub fn entry(
     end: u64,
     replacement: &[u8],
 ) -> Entered
-    ensures { λ r. ⌜ Enters (now (image .entry)) (now (digest .entry)) (now (reference .entry)) start end (now (replacement .entry)) r (now (image .exit)) ⌝ }
+    ensures { λ r. ⌜
+        Enters (now (image .entry)) (now (digest .entry)) (now (reference .entry)) start end
+        (now (replacement .entry)) r (now (image .exit)) ⌝ }
 {
     match check_image(image, digest, reference) {
         Outcome::Accepted => enter_allele(image, reference, start, end, replacement),

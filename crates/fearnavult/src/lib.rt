@@ -28,12 +28,15 @@ ghost use Rattle.allele_identifier.specs.Calls.{WritesAllele, IdentifiesAllele}
 ghost use Rattle.entry.specs.Calls.{Enters};
 ghost use Rattle.blank.specs.Calls.{Blanks};
 ghost use Rattle.register.specs.Calls.{Withdraws, Undoes, Seals};
-ghost use Rattle.c_answers.specs.Flat.{flatWritten, flatForm, flatLocation, flatAllele, flatOutcome, flatEntered, flatUndone, Flattened};
+ghost use Rattle.c_answers.specs.Flat.{flatWritten, flatForm, flatLocation, flatAllele, flatOutcome, flatEntered};
+ghost use Rattle.c_answers.specs.Flat.{flatUndone, Flattened};
 
 // As `sequence_identifier::sequence_identifier`.
 #[no_mangle]
 pub extern "C" fn fv_sequence_identifier(reference: &[u8], out: &mut [u8], place: u64) -> FvWritten
-    ensures { λ r. ⌜ Flattened flatWritten (λ w. Identifies (now (reference .entry)) (now (out .entry)) place w (now (out .exit))) r ⌝ }
+    ensures { λ r. ⌜
+        Flattened flatWritten
+        (λ w. Identifies (now (reference .entry)) (now (out .entry)) place w (now (out .exit))) r ⌝ }
 {
     flat_written(sequence_identifier::sequence_identifier(reference, out, place))
 }
@@ -49,7 +52,8 @@ pub extern "C" fn fv_running_begin() -> Running
 // As `running_digest::feed`.
 #[no_mangle]
 pub extern "C" fn fv_running_feed(state: &mut Running, part: &[u8]) -> FvOutcome
-    ensures { λ r. ⌜ Flattened flatOutcome (λ a. Feeds (now (state .entry)) (now (part .entry)) a (now (state .exit))) r ⌝ }
+    ensures { λ r. ⌜
+        Flattened flatOutcome (λ a. Feeds (now (state .entry)) (now (part .entry)) a (now (state .exit))) r ⌝ }
 {
     flat_outcome(running_digest::feed(state, part))
 }
@@ -57,7 +61,8 @@ pub extern "C" fn fv_running_feed(state: &mut Running, part: &[u8]) -> FvOutcome
 // As `running_digest::finish`.
 #[no_mangle]
 pub extern "C" fn fv_running_finish(state: &Running, out: &mut [u8], place: u64) -> FvWritten
-    ensures { λ r. ⌜ Flattened flatWritten (λ w. Finishes (now (state .entry)) (now (out .entry)) place w (now (out .exit))) r ⌝ }
+    ensures { λ r. ⌜
+        Flattened flatWritten (λ w. Finishes (now (state .entry)) (now (out .entry)) place w (now (out .exit))) r ⌝ }
 {
     flat_written(running_digest::finish(state, out, place))
 }
@@ -72,7 +77,9 @@ pub extern "C" fn fv_normal_form(
     out: &mut [u8],
     place: u64,
 ) -> FvForm
-    ensures { λ r. ⌜ Flattened flatForm (λ a. Normalises (now (reference .entry)) start end (now (replacement .entry)) (now (out .entry)) place a (now (out .exit))) r ⌝ }
+    ensures { λ r. ⌜
+        Flattened flatForm (λ a. Normalises (now (reference .entry)) start end (now (replacement .entry))
+        (now (out .entry)) place a (now (out .exit))) r ⌝ }
 {
     flat_form(normal_form_calls::normal_form(reference, start, end, replacement, out, place))
 }
@@ -87,7 +94,10 @@ pub extern "C" fn fv_location_text(
     out: &mut [u8],
     place: u64,
 ) -> FvWritten
-    ensures { λ r. ⌜ Flattened flatWritten (λ w. WritesLocation residues start end (now (digest .entry)) (now (out .entry)) place w (now (out .exit))) r ⌝ }
+    ensures { λ r. ⌜
+        Flattened flatWritten
+        (λ w. WritesLocation residues start end (now (digest .entry)) (now (out .entry)) place w (now (out .exit)))
+        r ⌝ }
 {
     flat_written(location_identifier::location_text(residues, start, end, digest, out, place))
 }
@@ -102,7 +112,10 @@ pub extern "C" fn fv_location_identifier(
     out: &mut [u8],
     place: u64,
 ) -> FvWritten
-    ensures { λ r. ⌜ Flattened flatWritten (λ w. IdentifiesLocation residues start end (now (digest .entry)) (now (out .entry)) place w (now (out .exit))) r ⌝ }
+    ensures { λ r. ⌜
+        Flattened flatWritten
+        (λ w. IdentifiesLocation residues start end (now (digest .entry)) (now (out .entry)) place w
+        (now (out .exit))) r ⌝ }
 {
     flat_written(location_identifier::location_identifier(residues, start, end, digest, out, place))
 }
@@ -118,7 +131,10 @@ pub extern "C" fn fv_allele_text(
     out: &mut [u8],
     place: u64,
 ) -> FvWritten
-    ensures { λ r. ⌜ Flattened flatWritten (λ w. WritesAllele (now (reference .entry)) start end (now (replacement .entry)) (now (digest .entry)) (now (out .entry)) place w (now (out .exit))) r ⌝ }
+    ensures { λ r. ⌜
+        Flattened flatWritten
+        (λ w. WritesAllele (now (reference .entry)) start end (now (replacement .entry)) (now (digest .entry))
+        (now (out .entry)) place w (now (out .exit))) r ⌝ }
 {
     flat_written(allele_identifier::allele_text(
         reference,
@@ -142,7 +158,10 @@ pub extern "C" fn fv_allele_identifier(
     out: &mut [u8],
     place: u64,
 ) -> FvWritten
-    ensures { λ r. ⌜ Flattened flatWritten (λ w. IdentifiesAllele (now (reference .entry)) start end (now (replacement .entry)) (now (digest .entry)) (now (out .entry)) place w (now (out .exit))) r ⌝ }
+    ensures { λ r. ⌜
+        Flattened flatWritten
+        (λ w. IdentifiesAllele (now (reference .entry)) start end (now (replacement .entry)) (now (digest .entry))
+        (now (out .entry)) place w (now (out .exit))) r ⌝ }
 {
     flat_written(allele_identifier::allele_identifier(
         reference,
@@ -181,7 +200,10 @@ pub extern "C" fn fv_blank(
     journal: u64,
     pool: u64,
 ) -> FvOutcome
-    ensures { λ r. ⌜ Flattened flatOutcome (λ a. Blanks (now (image .entry)) residues (now (digest .entry)) records journal pool a (now (image .exit))) r ⌝ }
+    ensures { λ r. ⌜
+        Flattened flatOutcome
+        (λ a. Blanks (now (image .entry)) residues (now (digest .entry)) records journal pool a
+        (now (image .exit))) r ⌝ }
 {
     flat_outcome(blank::blank(image, residues, digest, records, journal, pool))
 }
@@ -196,7 +218,10 @@ pub extern "C" fn fv_entry(
     end: u64,
     replacement: &[u8],
 ) -> FvEntered
-    ensures { λ r. ⌜ Flattened flatEntered (λ a. Enters (now (image .entry)) (now (digest .entry)) (now (reference .entry)) start end (now (replacement .entry)) a (now (image .exit))) r ⌝ }
+    ensures { λ r. ⌜
+        Flattened flatEntered
+        (λ a. Enters (now (image .entry)) (now (digest .entry)) (now (reference .entry)) start end
+        (now (replacement .entry)) a (now (image .exit))) r ⌝ }
 {
     flat_entered(entry::entry(image, digest, reference, start, end, replacement))
 }

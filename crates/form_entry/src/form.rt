@@ -39,7 +39,9 @@ ghost use Rattle.form_entry.specs.Calls.{EntersAs, EntersForm};
 fn reenter(image: &mut [u8], number: usize) -> Entered
     requires { ⌜ Header (now image) ⌝ }
     requires { ⌜ (1 ≤ number) × (number ≤ issued (now image)) ⌝ }
-    ensures { λ r. ⌜ Keeps Refused (verdict (noJournalRoom (now (image .entry)) ∷ [])) (Again number) (now (image .entry)) (reentered (now (image .entry)) number) r (now (image .exit)) ⌝ }
+    ensures { λ r. ⌜
+        Keeps Refused (verdict (noJournalRoom (now (image .entry)) ∷ [])) (Again number) (now (image .entry))
+        (reentered (now (image .entry)) number) r (now (image .exit)) ⌝ }
 {
     let capacity = read_number(image, JOURNAL_CAPACITY_AT);
     if capacity <= read_number(image, JOURNAL_COUNT_AT) {
@@ -53,7 +55,9 @@ fn reenter(image: &mut [u8], number: usize) -> Entered
 fn enter_new(image: &mut [u8], form: Form, a: &[u8], b: &[u8], c: &[u8]) -> Entered
     requires { ⌜ Header (now image) ⌝ }
     requires { ⌜ form .length ≡ length (now a) + (length (now b) + length (now c)) ⌝ }
-    ensures { λ r. ⌜ EntersAs (now (image .entry)) (asked form (now (a .entry)) (now (b .entry)) (now (c .entry))) (new under (issued (now (image .entry)) + 1)) r (now (image .exit)) ⌝ }
+    ensures { λ r. ⌜
+        EntersAs (now (image .entry)) (asked form (now (a .entry)) (now (b .entry)) (now (c .entry)))
+        (new under (issued (now (image .entry)) + 1)) r (now (image .exit)) ⌝ }
 {
     let issued = read_number(image, ISSUED_AT);
     let records = read_number(image, RECORD_CAPACITY_AT);
@@ -77,7 +81,9 @@ pub fn enter_form(image: &mut [u8], form: Form, a: &[u8], b: &[u8], c: &[u8]) ->
     requires { ⌜ Header (now image) ⌝ }
     requires { ⌜ wellFormed (now image) ≡ true ⌝ }
     requires { ⌜ form .length ≡ length (now a) + (length (now b) + length (now c)) ⌝ }
-    ensures { λ r. ⌜ EntersForm (now (image .entry)) (asked form (now (a .entry)) (now (b .entry)) (now (c .entry))) r (now (image .exit)) ⌝ }
+    ensures { λ r. ⌜
+        EntersForm (now (image .entry)) (asked form (now (a .entry)) (now (b .entry)) (now (c .entry))) r
+        (now (image .exit)) ⌝ }
 {
     let known = lowest_holding(image, ACTIVE, form, a, b, c);
     if 0 < known {

@@ -72,7 +72,8 @@ fn digest_formed(image: &[u8]) -> bool
 // Whether the pool's capacity lies within the bytes.
 fn has_room(image: &[u8]) -> bool
     requires { ⌜ headerSize ≤ length (now image) ⌝ }
-    ensures { λ r. ⌜ r ≡ leb (poolOffset (now (image .entry)) + poolCapacity (now (image .entry))) (length (now (image .entry))) ⌝ }
+    ensures { λ r. ⌜
+        r ≡ leb (poolOffset (now (image .entry)) + poolCapacity (now (image .entry))) (length (now (image .entry))) ⌝ }
 {
     read_number(image, POOL_OFFSET_AT) + read_number(image, POOL_CAPACITY_AT) <= image.len()
 }

@@ -12,7 +12,9 @@ ghost use Rattle.input_line.specs.Inner.{Fields};
 // Where the replacement begins that the last field of the line, from `third` on, stands for.
 fn replacement_from(line: &[u8], third: usize) -> usize
     requires { ⌜ third < length (now line) ⌝ }
-    ensures { λ r. ⌜ (drop r (now (line .entry)) ≡ replacementOf (drop third (now (line .entry)))) × (r ≤ length (now (line .entry))) ⌝ }
+    ensures { λ r. ⌜
+        (drop r (now (line .entry)) ≡ replacementOf (drop third (now (line .entry))))
+        × (r ≤ length (now (line .entry))) ⌝ }
 {
     if line[third] != b'.' {
         return third;

@@ -21,7 +21,8 @@ ghost use lib.ListN.{length};
 ghost use Rattle.refusal.specs.Verdict.{accepted};
 ghost use Rattle.refusal.specs.Writes.{Writes};
 ghost use Rattle.text.specs.Layout.{locationText};
-ghost use Rattle.location_identifier.specs.Calls.{locationAnswer, outputAnswer, WritesLocation, IdentifiesLocation};
+ghost use Rattle.location_identifier.specs.Calls.{locationAnswer, outputAnswer, WritesLocation};
+ghost use Rattle.location_identifier.specs.Calls.{IdentifiesLocation};
 
 const LOCATION_PREFIX: [u8; 10] = *b"ga4gh:VSL.";
 
@@ -72,7 +73,8 @@ fn check_output(
 // Writes the location text into `out`, which has room for it from `place` on.
 fn place_text(start: u64, end: u64, digest: &[u8], out: &mut [u8], place: u64) -> Written
     requires { ⌜ place + length (locationText start end (now digest)) ≤ length (now out) ⌝ }
-    ensures { λ r. ⌜ Writes accepted (locationText start end (now (digest .entry))) (now (out .entry)) place r (now (out .exit)) ⌝ }
+    ensures { λ r. ⌜
+        Writes accepted (locationText start end (now (digest .entry))) (now (out .entry)) place r (now (out .exit)) ⌝ }
 {
     let at = place as usize;
     let written = write_location(&mut out[at..], start, end, digest);
@@ -88,7 +90,8 @@ pub fn location_text(
     out: &mut [u8],
     place: u64,
 ) -> Written
-    ensures { λ r. ⌜ WritesLocation residues start end (now (digest .entry)) (now (out .entry)) place r (now (out .exit)) ⌝ }
+    ensures { λ r. ⌜
+        WritesLocation residues start end (now (digest .entry)) (now (out .entry)) place r (now (out .exit)) ⌝ }
 {
     let room = out.len() as u64;
     let needed = (decimal_length(start) + decimal_length(end) + AROUND_NUMBERS) as u64;
@@ -107,7 +110,8 @@ pub fn location_identifier(
     out: &mut [u8],
     place: u64,
 ) -> Written
-    ensures { λ r. ⌜ IdentifiesLocation residues start end (now (digest .entry)) (now (out .entry)) place r (now (out .exit)) ⌝ }
+    ensures { λ r. ⌜
+        IdentifiesLocation residues start end (now (digest .entry)) (now (out .entry)) place r (now (out .exit)) ⌝ }
 {
     let room = out.len() as u64;
     match check_output(residues, start, end, digest, IDENTIFIER_LENGTH, place, room) {

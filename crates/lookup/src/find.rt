@@ -41,7 +41,9 @@ fn equal_three(s: &[u8], a: &[u8], b: &[u8], c: &[u8]) -> bool
 fn holds_numbers(image: &[u8], number: usize, status: usize, start: u64, end: u64) -> bool
     requires { ⌜ Header (now image) ⌝ }
     requires { ⌜ (1 ≤ number) × (number ≤ issued (now image)) ⌝ }
-    ensures { λ r. ⌜ r ≡ all (eqb (statusOf (now (image .entry)) number) status ∷ eqb (startOf (now (image .entry)) number) start ∷ eqb (endOf (now (image .entry)) number) end ∷ []) ⌝ }
+    ensures { λ r. ⌜
+        r ≡ all (eqb (statusOf (now (image .entry)) number) status
+        ∷ eqb (startOf (now (image .entry)) number) start ∷ eqb (endOf (now (image .entry)) number) end ∷ []) ⌝ }
 {
     let at = record_at(number);
     if read_number(image, at + STATUS_IN_RECORD) != status {
@@ -66,7 +68,8 @@ fn holds_replacement(
     requires { ⌜ wellFormed (now image) ≡ true ⌝ }
     requires { ⌜ (1 ≤ number) × (number ≤ issued (now image)) ⌝ }
     requires { ⌜ residues ≡ length (now a) + (length (now b) + length (now c)) ⌝ }
-    ensures { λ r. ⌜ r ≡ same (replacementOf (now (image .entry)) number) (now (a .entry) ++ (now (b .entry) ++ now (c .entry))) ⌝ }
+    ensures { λ r. ⌜
+        r ≡ same (replacementOf (now (image .entry)) number) (now (a .entry) ++ (now (b .entry) ++ now (c .entry))) ⌝ }
 {
     let at = record_at(number);
     let length = read_number(image, at + LENGTH_IN_RECORD);
@@ -90,7 +93,8 @@ fn holds_form(
     requires { ⌜ wellFormed (now image) ≡ true ⌝ }
     requires { ⌜ (1 ≤ number) × (number ≤ issued (now image)) ⌝ }
     requires { ⌜ form .length ≡ length (now a) + (length (now b) + length (now c)) ⌝ }
-    ensures { λ r. ⌜ r ≡ holds (now (image .entry)) status (asked form (now (a .entry)) (now (b .entry)) (now (c .entry))) number ⌝ }
+    ensures { λ r. ⌜
+        r ≡ holds (now (image .entry)) status (asked form (now (a .entry)) (now (b .entry)) (now (c .entry))) number ⌝ }
 {
     if !holds_numbers(image, number, status, form.start, form.end) {
         return false;
@@ -110,7 +114,9 @@ pub fn lowest_holding(
     requires { ⌜ Header (now image) ⌝ }
     requires { ⌜ wellFormed (now image) ≡ true ⌝ }
     requires { ⌜ form .length ≡ length (now a) + (length (now b) + length (now c)) ⌝ }
-    ensures { λ r. ⌜ (r ≡ lowestHolding (now (image .entry)) status (asked form (now (a .entry)) (now (b .entry)) (now (c .entry)))) × (r ≤ issued (now (image .entry))) ⌝ }
+    ensures { λ r. ⌜
+        (r ≡ lowestHolding (now (image .entry)) status
+        (asked form (now (a .entry)) (now (b .entry)) (now (c .entry)))) × (r ≤ issued (now (image .entry))) ⌝ }
 {
     let issued = read_number(image, ISSUED_AT);
     let mut number = 0;

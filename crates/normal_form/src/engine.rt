@@ -62,7 +62,9 @@ fn as_given(start: usize, end: usize, given: usize) -> Stretches
 // Trims and rolls a change.
 fn justify(reference: &[u8], start: usize, end: usize, replacement: &[u8]) -> Stretches
     requires { ⌜ Allele (now reference) start end (now replacement) ⌝ }
-    ensures { λ r. ⌜ r ≡ changedStretches (now (reference .entry)) start end (now (replacement .entry)) (altered (now (reference .entry)) start end (now (replacement .entry))) ⌝ }
+    ensures { λ r. ⌜
+        r ≡ changedStretches (now (reference .entry)) start end (now (replacement .entry))
+        (altered (now (reference .entry)) start end (now (replacement .entry))) ⌝ }
 {
     let n = reference.len();
     let given = replacement.len();

@@ -110,7 +110,8 @@ pub fn form_of(w: Stretches) -> Form
 fn write(reference: &[u8], replacement: &[u8], w: Stretches, out: &mut [u8], at: usize)
     requires { ⌜ Fits (now reference) (now replacement) w ⌝ }
     requires { ⌜ at + joinedLength w ≤ length (now out) ⌝ }
-    ensures { λ _. ⌜ now (out .exit) ≡ over (now (out .entry)) at (joined (now (reference .entry)) (now (replacement .entry)) w) ⌝ }
+    ensures { λ _. ⌜
+        now (out .exit) ≡ over (now (out .entry)) at (joined (now (reference .entry)) (now (replacement .entry)) w) ⌝ }
 {
     put_three(
         out,
@@ -130,7 +131,9 @@ pub fn normal_form(
     out: &mut [u8],
     place: u64,
 ) -> Normalised
-    ensures { λ r. ⌜ Normalises (now (reference .entry)) start end (now (replacement .entry)) (now (out .entry)) place r (now (out .exit)) ⌝ }
+    ensures { λ r. ⌜
+        Normalises (now (reference .entry)) start end (now (replacement .entry)) (now (out .entry)) place r
+        (now (out .exit)) ⌝ }
 {
     match locate_clean(reference, start, end, replacement) {
         Located::Accepted(w) => {

@@ -1,7 +1,7 @@
 // The running digest in document 01's form: one small state, lent, and brought forward by each part.
 //
-// Crate `sequence_identifier` has the same calls by value, which these wrap. The C library exports these; the rest
-// of the project uses those.
+// Crate `sequence_identifier` has the same calls by value, which these wrap. The C library exports these;
+// the rest of the project uses those.
 use refusal::Outcome;
 use refusal::Written;
 use sha512::Running;

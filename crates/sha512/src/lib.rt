@@ -1,7 +1,7 @@
 // SHA-512 (FIPS 180-4) of a message that comes whole or in parts, over the padding of its end and the
-// compression of its blocks. Crates `digest_text`, `sequence_identifier`, `location_identifier` and `allele_identifier` stand on it. specs/
-// has the standard's digest and the running state; proofs/Join.antt the law that parts fed one after
-// another and finished give the digest of their join.
+// compression of its blocks. Crates `digest_text`, `sequence_identifier`, `location_identifier` and
+// `allele_identifier` stand on it. specs/ has the standard's digest and the running state; proofs/Join.antt
+// the law that parts fed one after another and finished give the digest of their join.
 mod last_block;
 mod parts;
 

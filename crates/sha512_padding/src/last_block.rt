@@ -13,7 +13,8 @@ ghost use Rattle.sha512_padding.specs.Padding.{bytesOf, padding, hashByt
 // Lays the count of bits of `total` bytes over the end of `out`, as a 128-bit number.
 fn put_length(out: &mut [u8], total: u64)
     requires { ⌜ 16 ≤ length (now out) ⌝ }
-    ensures { λ _. ⌜ now (out .exit) ≡ over (now (out .entry)) (length (now (out .entry)) - 16) (bytesOf 16 (total * 8)) ⌝ }
+    ensures { λ _. ⌜
+        now (out .exit) ≡ over (now (out .entry)) (length (now (out .entry)) - 16) (bytesOf 16 (total * 8)) ⌝ }
 {
     let end = out.len();
     write_number(&mut out[end - 16..end - 1], total / 32);

@@ -20,7 +20,8 @@ pub fn smaller(a: usize, b: usize) -> usize
 // How many bytes lie in the whole words that both begin with.
 fn words_ahead(a: &[u8], b: &[u8]) -> usize
     ensures { λ r. ⌜ (r ≤ length (now (a .entry))) × (r ≤ length (now (b .entry))) ⌝ }
-    ensures { λ r. ⌜ lcp (now (a .entry)) (now (b .entry)) ≡ r + lcp (drop r (now (a .entry))) (drop r (now (b .entry))) ⌝ }
+    ensures { λ r. ⌜
+        lcp (now (a .entry)) (now (b .entry)) ≡ r + lcp (drop r (now (a .entry))) (drop r (now (b .entry))) ⌝ }
 {
     let room = smaller(a.len(), b.len());
     let mut i = 0;
@@ -36,7 +37,10 @@ fn words_ahead(a: &[u8], b: &[u8]) -> usize
 // How many bytes lie in the whole words that both end in.
 fn words_behind(a: &[u8], b: &[u8]) -> usize
     ensures { λ r. ⌜ (r ≤ length (now (a .entry))) × (r ≤ length (now (b .entry))) ⌝ }
-    ensures { λ r. ⌜ lcs (now (a .entry)) (now (b .entry)) ≡ r + lcs (take (length (now (a .entry)) - r) (now (a .entry))) (take (length (now (b .entry)) - r) (now (b .entry))) ⌝ }
+    ensures { λ r. ⌜
+        lcs (now (a .entry)) (now (b .entry)) ≡ r
+        + lcs (take (length (now (a .entry)) - r) (now (a .entry)))
+        (take (length (now (b .entry)) - r) (now (b .entry))) ⌝ }
 {
     let room = smaller(a.len(), b.len());
     let mut i = 0;

@@ -38,7 +38,8 @@ pub fn put(to: &mut [u8], place: usize, from: &[u8]) -> usize
 // them.
 pub fn put_three(to: &mut [u8], place: usize, a: &[u8], b: &[u8], c: &[u8]) -> usize
     requires { ⌜ place + (length (now a) + (length (now b) + length (now c))) ≤ length (now to) ⌝ }
-    ensures { λ r. ⌜ Wrote (now (to .entry)) place (now (a .entry) ++ (now (b .entry) ++ now (c .entry))) (now (to .exit)) r ⌝ }
+    ensures { λ r. ⌜
+        Wrote (now (to .entry)) place (now (a .entry) ++ (now (b .entry) ++ now (c .entry))) (now (to .exit)) r ⌝ }
 {
     let second = put(to, place, a);
     let third = put(to, second, b);

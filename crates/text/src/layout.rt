@@ -35,7 +35,8 @@ pub const ALLELE_WORDS: usize = BEFORE_LOCATION.len()
 
 // Lays the location text over the front of `out`, and answers how long it is.
 pub fn write_location(out: &mut [u8], start: u64, end: u64, digest: &[u8]) -> usize
-    requires { ⌜ length (decimal end) + (length (decimal start) + (length (now digest) + locationWords)) ≤ length (now out) ⌝ }
+    requires { ⌜
+        length (decimal end) + (length (decimal start) + (length (now digest) + locationWords)) ≤ length (now out) ⌝ }
     ensures { λ r. ⌜ Wrote (now (out .entry)) 0 (locationText start end (now (digest .entry))) (now (out .exit)) r ⌝ }
 {
     let a = put(out, 0, &BEFORE_END);
@@ -48,8 +49,13 @@ pub fn write_location(out: &mut [u8], start: u64, end: u64, digest: &[u8]) -> us
 // Lays the allele text of a replacement that comes in three stretches over the front of `out`, and
 // answers how long it is.
 pub fn write_allele(out: &mut [u8], location: &[u8], a: &[u8], b: &[u8], c: &[u8]) -> usize
-    requires { ⌜ length (now location) + (length (now a) + (length (now b) + (length (now c) + alleleWords))) ≤ length (now out) ⌝ }
-    ensures { λ r. ⌜ Wrote (now (out .entry)) 0 (alleleText (now (location .entry)) (now (a .entry) ++ (now (b .entry) ++ now (c .entry)))) (now (out .exit)) r ⌝ }
+    requires { ⌜
+        length (now location) + (length (now a) + (length (now b) + (length (now c) + alleleWords)))
+        ≤ length (now out) ⌝ }
+    ensures { λ r. ⌜
+        Wrote (now (out .entry)) 0
+        (alleleText (now (location .entry)) (now (a .entry) ++ (now (b .entry) ++ now (c .entry))))
+        (now (out .exit)) r ⌝ }
 {
     let second = put_three(out, 0, &BEFORE_LOCATION, location, &BEFORE_SEQUENCE);
     let third = put_three(out, second, a, b, c);
