@@ -1,5 +1,5 @@
 -- Published digests as theorems: the definitions, computed. FIPS 180-4's "abc" is one block, its longer message two;
--- the digest of ACGT is document 01's, and that of nothing is of the published SHA-512 of the sha512t24u-empty message.
+-- the digest of ACGT is document 01's, and that of nothing is of the published SHA-512 of the empty message.
 use mathlib.Core.Path.{_≡_, refl}
 use mathlib.Core.List.{[]}
 use Rattle.stretch.specs.Ascii.{ascii}

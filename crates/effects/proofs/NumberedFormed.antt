@@ -1,4 +1,4 @@
--- An image in which the next number was issued is well wellFormed-formed.
+-- An image in which the next number was issued is well formed.
 use Prim.Native.Nat.{ℕ, suc, _+_, _<_, _≤_}
 use native.Mathlib.Nat.{eq-or-lt-of-le}
 use native.Mathlib.Numerals.{add-one}

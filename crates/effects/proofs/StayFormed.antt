@@ -1,4 +1,4 @@
--- A change that leaves the frame, the records and the journal keeps an image well wellFormed-formed: a mark, an undo, a
+-- A change that leaves the frame, the records and the journal keeps an image well formed: a mark, an undo, a
 -- seal.
 use Prim.Native.Nat.{ℕ, suc, _+_, _<_, _≤_}
 use native.Mathlib.Nat.{eq-or-lt-of-le}

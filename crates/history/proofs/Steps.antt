@@ -67,9 +67,9 @@ module _ (r b : List ℕ) (state : State r b) where
 
   -- a change that keeps the numbers
   stays-state : (c : List ℕ) → wellFormed c ≡ true → Stays b c → issued c ≡ issued b → State r c
-  stays-state c wellFormed-formed s same =
+  stays-state c formed s same =
       record {
-        formed = wellFormed-formed;
+        formed = formed;
         proper = λ i l. let m = live-back b c same i l in stays-proper r b c s i m (state .proper i m);
       }
 
@@ -78,7 +78,7 @@ module _ (r b : List ℕ) (state : State r b) where
   journalled-state c i s j small l room =
       let now = j .restated in
       let formed = journalled-formed b c (state .formed) i s j small (l .from) (l .to) room in
-      stays-state c wellFormed-formed (now .stays) (now .numbers)
+      stays-state c formed (now .stays) (now .numbers)
 
   withdrawn-step : (i : ℕ) → Withdrawable b i → Step r b (withdrawal i) (withdrawn b i)
   withdrawn-step i w =
@@ -109,7 +109,7 @@ module _ (r b : List ℕ) (state : State r b) where
       let now = s .restated in
       let formed = taken-back-formed b c (state .formed) (latest b) status s (omega arith) in
       record {
-        state = stays-state c wellFormed-formed (now .stays) (now .numbers);
+        state = stays-state c formed (now .stays) (now .numbers);
         moves = record {
           count = omega (arith, s .count);
           last = taken-last c (s .count);
@@ -248,7 +248,7 @@ module _ (r b : List ℕ) (state : State r b) where
     entry-step (withdrawn-as i e m) = rw e (again-step i e m)
     entry-step (nowhere e none-active none-inactive) = rw e (new-step e none-active none-inactive)
 
-  -- an accepted call makes its call-step, and a refused one leaves all as it was
+  -- an accepted call makes its step, and a refused one leaves all as it was
   by-verdict : {A : Type 0} {refuses : Refusal → A} {v : Verdict} {said answer : A} {changed left : List ℕ}
       (event : A → Event) → ((why : Refusal) → event (refuses why) ≡ refusal)
       → Keeps refuses v said b changed answer left

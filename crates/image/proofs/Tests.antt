@@ -42,7 +42,7 @@ pub cond-both : (t u : Bool) → cond t u false ≡ true → (t ≡ true) × (u 
 cond-both true u h = (refl, h)
 cond-both false u h = (cc, cc)
 
--- the cond-last of them
+-- the last of them
 pub cond-last : (t : Bool) → cond t true false ≡ true → t ≡ true
 cond-last t h = cond-both t true h .0
 

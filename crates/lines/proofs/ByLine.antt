@@ -1,4 +1,4 @@
--- A whole input, line by line: what the next-steps write, one after another, is the output.
+-- A whole input, line by line: what the steps write, one after another, is the output.
 use Prim.Native.Nat.{ℕ, _+_, _<_, _≤_}
 use native.Mathlib.Nat.{sub-zero}
 use native.Mathlib.Omega.{arith}
@@ -126,7 +126,7 @@ module _ (input : List ℕ) where
   pub pieces-output : (s : Step) (ps : List (List ℕ)) → Starts input s → Pieces input s ps → inARow ps ≡ output input
   pieces-output s ps b p = pieces-rest p ∙ sym (b .whole)
 
--- all that the program prints: it next-steps through the input up to its limit
+-- all that the program prints: it steps through the input up to its limit
 pub pieces-printed : (input : List ℕ) (s : Step) (ps : List (List ℕ)) → Starts (take inputLimit input) s
     → Pieces (take inputLimit input) s ps
     → inARow ps ≡ printed input

@@ -1,4 +1,4 @@
--- The worked-normal alleles: each has the normal form that the table gives it.
+-- The worked alleles: each has the normal form that the table gives it.
 use mathlib.Core.Path.{_≡_, refl}
 use mathlib.Core.List.{map}
 use Rattle.stretch.specs.Common.{lcp, lcs}

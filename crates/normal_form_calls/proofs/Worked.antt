@@ -1,4 +1,4 @@
--- The worked-normal alleles: the call answers each as the table does.
+-- The worked alleles: the call answers each as the table does.
 use Prim.Native.Nat.{ℕ, _+_, _≤_}
 use mathlib.Core.Path.{_≡_, refl, _∙_}
 use mathlib.Core.List.{List, [], _∷_, map}

@@ -114,8 +114,8 @@ fn write(reference: &[u8], replacement: &[u8], w: Stretches, out: &mut [u8], at:
         now (out .exit) ≡ over (now (out .entry)) at (joined (now (reference .entry)) (now (replacement .entry)) w) ⌝ }
 {
     put_three(
-        out,
-        at,
+        &mut out[at..],
+        0,
         reference_before(reference, w),
         replacement_kept(replacement, w),
         reference_after(reference, w),

@@ -105,6 +105,6 @@ pub parts-join : (parts : List (List ℕ)) → length (joined parts) < 2 ^ 64
     → finished (fedAll begun parts) ≡ sha512 (joined parts)
 parts-join parts h = finished-is (fedAll begun parts) (joined parts) (fedAll-is parts begun [] fed-begun h)
 
--- a message that comes finished-fed
+-- a message that comes whole
 pub finished-fed : (m : List ℕ) → length m < 2 ^ 64 → finished (fed begun m) ≡ sha512 m
 finished-fed m h = finished-is (fed begun m) m (fed-on begun [] m fed-begun h)

@@ -1,9 +1,21 @@
--- The three pieces are laid as one text.
+-- The three pieces are laid as one text, at the front of a tail that comes back.
 use native.Mathlib.Omega.{arith}
 use borrow.Author.Needs.{needs}
-use Rattle.normal_form.proofs.Joined.{pieces-joined, pieces-long}
+use borrow.Author.Tests.{le-ltb}
+use Rattle.stretch.proofs.Over.{over-tail-front}
+use Rattle.refusal.proofs.Sum.{tail-room}
+use Rattle.normal_form.proofs.Joined.{pieces-joined, pieces-long, length-joined}
 use Rattle.normal_form_calls.proofs.call.write.Statement.{statement}
 use Rattle.normal_form_calls.proofs.call.write.Tie as tie
+
+sub-put-three : tie.Need-sub-put-three
+sub-put-three c = search needs
+
+part-put-three-start : tie.Need-part-put-three-start
+part-put-three-start c = search needs
+
+part-put-three-end : tie.Need-part-put-three-end
+part-put-three-end c = search needs
 
 reference-before-requires : tie.Need-reference-before-requires
 reference-before-requires c κs = search needs
@@ -20,7 +32,7 @@ put-three-requires c κs =
     let first = c .before .before .reference-before .ensures in
     let second = c .before .replacement-kept .ensures in
     let long = pieces-long _ _ _ (s .pre .0) first second (c .reference-after .ensures) in
-    omega (arith, s .pre .1)
+    omega (arith, tail-room (s .args .out .now) (s .args .at) _ (le-ltb _ _ (s .pre .1)))
 
 same-length : tie.Need-same-length
 same-length c = search needs
@@ -32,12 +44,17 @@ returns c =
     let first = t .before .before .reference-before .ensures in
     let second = t .before .replacement-kept .ensures in
     let e = pieces-joined _ _ (s .args .w) first second (t .reference-after .ensures) in
+    let long = length-joined _ _ (s .args .w) (s .pre .0) in
     rw (c .before .before .put-three .ensures .laid, e)
+    (over-tail-front (s .args .out .now) (s .args .at) _ (omega (arith, s .pre .1)))
 
 pub write-spec : {M : Type 1} → statement M
 write-spec =
     tie.close
     (tie.spec
+    sub-put-three
+    part-put-three-start
+    part-put-three-end
     reference-before-requires
     replacement-kept-requires
     reference-after-requires

@@ -34,7 +34,7 @@ returns-2 c =
     rw (
       c .refuse2 .ensures,
       ← c .before .before .read-number .ensures .0,
-      wellFormed-formed,
+      formed,
       eq-eqb _ _ (c .before .if2 .taken),
     )
 
@@ -46,7 +46,7 @@ unfolding withdrawalGrounds
 returns-3 c =
     let t = c .before .before .before .before in
     let formed = sym (t .before .well-formed .ensures) ∙ not-false _ (t .if1 .left) in
-    rw (c .refuse3 .ensures, ← c .before .before .before .read-number .ensures .0, wellFormed-formed)
+    rw (c .refuse3 .ensures, ← c .before .before .before .read-number .ensures .0, formed)
     (rw (ne-eqb _ _ (c .before .before .if2 .left), lt-ltb _ _ (c .before .if3 .taken)))
 
 status-of-requires : tie.Need-status-of-requires
@@ -68,7 +68,7 @@ returns-4 c =
       c .refuse4 .ensures,
       ← k .before .before .read-number .ensures .0,
       ← c .before .before .status-of .ensures,
-      wellFormed-formed,
+      formed,
     )
     (rw (ne-eqb _ _ (k .before .if2 .left), le-ltb _ _ (k .if3 .left), ne-eqb _ _ (c .before .if4 .taken)))
 
@@ -97,7 +97,7 @@ returns-5 c =
       ← k .before .status-of .ensures,
       ← c .before .before .before .read-number2 .ensures .0,
       ← c .before .before .read-number3 .ensures .0,
-      wellFormed-formed,
+      formed,
     )
     (rw (
       ne-eqb _ _ (k .before .before .before .if2 .left),
@@ -117,7 +117,7 @@ returns-6 c =
       ← k .before .status-of .ensures,
       ← c .before .before .read-number2 .ensures .0,
       ← c .before .read-number3 .ensures .0,
-      wellFormed-formed,
+      formed,
     )
     (rw (
       ne-eqb _ _ (k .before .before .before .if2 .left),

@@ -1,4 +1,4 @@
--- One part is the finished-fed message.
+-- One part is the whole message.
 use native.Mathlib.Omega.{arith}
 use borrow.Author.Needs.{needs}
 use Rattle.sha512.proofs.Join.{finished-fed}
