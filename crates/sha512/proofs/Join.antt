@@ -11,7 +11,7 @@ use Rattle.stretch.proofs.Over.{over-front, over-over}
 use Rattle.sha512_block.specs.declared.Hash.{Hash}
 use Rattle.sha512.specs.declared.Running.{Running}
 use Rattle.sha512_block.specs.Constants.{initial}
-use Rattle.sha512_block.specs.Blocks.{hashed}
+use Rattle.sha512_block.specs.Blocks.{hashed, blockSize}
 use Rattle.sha512_padding.specs.Padding.{padding}
 use Rattle.sha512_padding.proofs.Padding.{drop-replicate}
 use Rattle.sha512.specs.Message.{rest, sha512}
@@ -20,39 +20,39 @@ use Rattle.sha512.proofs.Blocks.{hashed-on, rest-on, hashed-short, rest
 
 pub take-filled : (s : List ℕ) (n : ℕ) → n ≡ length s → take n (filled s) ≡ s
 unfolding filled
-take-filled s n e = rw e (take-append-seam s (replicate (128 - length s) 0))
+take-filled s n e = rw e (take-append-seam s (replicate (blockSize - length s) 0))
 
 -- a block of zeros with two stretches laid over it
-pub laid-filled : (xs ys : List ℕ) → length xs + length ys ≤ 128
-    → over (over (replicate 128 0) 0 xs) (length xs) ys ≡ filled (xs ++ ys)
+pub laid-filled : (xs ys : List ℕ) → length xs + length ys ≤ blockSize
+    → over (over (replicate blockSize 0) 0 xs) (length xs) ys ≡ filled (xs ++ ys)
 unfolding filled
 laid-filled xs ys h =
-    ap (λ (k : ℕ). over (over (replicate 128 0) 0 xs) k ys) (sym (zero-add (length xs)))
-    ∙ over-over (replicate 128 0) 0 xs ys (omega arith)
-    ∙ over-front (replicate 128 0) (xs ++ ys)
-    ∙ ap (λ (l : List ℕ). (xs ++ ys) ++ l) (drop-replicate 128 (length (xs ++ ys)) 0)
+    ap (λ (k : ℕ). over (over (replicate blockSize 0) 0 xs) k ys) (sym (zero-add (length xs)))
+    ∙ over-over (replicate blockSize 0) 0 xs ys (omega arith)
+    ∙ over-front (replicate blockSize 0) (xs ++ ys)
+    ∙ ap (λ (l : List ℕ). (xs ++ ys) ++ l) (drop-replicate blockSize (length (xs ++ ys)) 0)
 
 pub after-on : (s : Hash) (n : ℕ) (xs ys : List ℕ) → after s n (xs ++ ys) ≡ after (hashed s xs) n (rest xs ++ ys)
 unfolding after
 after-on s n xs ys = rw (hashed-on s xs ys, rest-on xs ys)
 
-pub filled-whole : (xs : List ℕ) → length xs ≡ 128 → filled xs ≡ xs
+pub filled-whole : (xs : List ℕ) → length xs ≡ blockSize → filled xs ≡ xs
 unfolding filled
 filled-whole xs e = rw e (append-nil xs)
 
 -- the three ways in which a part is taken: from a block's edge, too short for a block, past the block's end
-pub fed-aligned : (r : Running) (p : List ℕ) → r .total % 128 ≡ 0
+pub fed-aligned : (r : Running) (p : List ℕ) → r .total % blockSize ≡ 0
     → after (r .hash) ((r .total + length p) % 2 ^ 64) p ≡ fed r p
 unfolding fed waiting
 fed-aligned r p e = rw e
 
-pub fed-short : (r : Running) (p : List ℕ) (b : List ℕ) (n : ℕ) → length (waiting r ++ p) < 128
+pub fed-short : (r : Running) (p : List ℕ) (b : List ℕ) (n : ℕ) → length (waiting r ++ p) < blockSize
     → b ≡ filled (waiting r ++ p) → n ≡ (r .total + length p) % 2 ^ 64
     → _≡_ {A = Running} (record { hash = r .hash; block = b; total = n }) (fed r p)
 unfolding fed after
 fed-short r p b n h e q = rw (hashed-short (r .hash) (waiting r ++ p) h, rest-short (waiting r ++ p) h, e, q)
 
-pub fed-past : (r : Running) (p : List ℕ) (k : ℕ) → length (waiting r ++ take k p) ≡ 128
+pub fed-past : (r : Running) (p : List ℕ) (k : ℕ) → length (waiting r ++ take k p) ≡ blockSize
     → after (hashed (r .hash) (filled (waiting r ++ take k p))) ((r .total + length p) % 2 ^ 64) (drop k p) ≡ fed r p
 unfolding fed
 fed-past r p k h =

@@ -6,13 +6,13 @@ use lib.ListN.{length, take, replicate}
 use Rattle.sha512_block.specs.declared.Hash.{Hash}
 use Rattle.sha512.specs.declared.Running.{Running}
 use Rattle.sha512_block.specs.Constants.{initial}
-use Rattle.sha512_block.specs.Blocks.{hashed}
+use Rattle.sha512_block.specs.Blocks.{hashed, blockSize}
 use Rattle.sha512_padding.specs.Padding.{padding, hashBytes}
 use Rattle.sha512.specs.Message.{rest}
 
 -- a block that begins with some bytes and goes on with zeros
 unfoldable pub filled : List ℕ → List ℕ
-filled s = s ++ replicate (128 - length s) 0
+filled s = s ++ replicate (blockSize - length s) 0
 
 -- the state before the first part
 unfoldable pub begun : Running
@@ -20,7 +20,7 @@ begun = record { hash = initial; block = filled []; total = 0 }
 
 -- the bytes that wait: how many they are is told by the total
 unfoldable pub waiting : Running → List ℕ
-waiting r = take (r .total % 128) (r .block)
+waiting r = take (r .total % blockSize) (r .block)
 
 -- from a hash value at a block's edge, the state after the bytes m, which bring the total to n
 unfoldable pub after : Hash → ℕ → List ℕ → Running

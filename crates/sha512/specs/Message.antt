@@ -3,12 +3,12 @@ use Prim.Native.Nat.{ℕ, _*_, _/_}
 use mathlib.Core.List.{List, _++_}
 use lib.ListN.{length, drop}
 use Rattle.sha512_block.specs.Constants.{initial}
-use Rattle.sha512_block.specs.Blocks.{hashed}
+use Rattle.sha512_block.specs.Blocks.{hashed, blockSize}
 use Rattle.sha512_padding.specs.Padding.{padding, hashBytes}
 
 -- the bytes after the whole blocks
 unfoldable pub rest : List ℕ → List ℕ
-rest m = drop (length m / 128 * 128) m
+rest m = drop (length m / blockSize * blockSize) m
 
 -- the digest of a message
 unfoldable pub sha512 : List ℕ → List ℕ

@@ -2,6 +2,7 @@
 use super::Running;
 use super::parts::begin;
 use super::parts::feed;
+use sha512_block::BLOCK_SIZE;
 use sha512_block::absorb;
 use sha512_padding::hash_bytes;
 use sha512_padding::pad;
@@ -13,12 +14,12 @@ ghost use Rattle.sha512.specs.Feeding.{finished};
 pub fn finish(state: Running) -> [u8; 64]
     ensures { λ r. ⌜ r ≡ finished state ⌝ }
 {
-    let waiting = (state.total % 128) as usize;
+    let waiting = (state.total % BLOCK_SIZE as u64) as usize;
     let total = state.total;
     let hash = state.hash;
     let block = state.block;
     if waiting < 112 {
-        let mut last = [0u8; 128];
+        let mut last = [0u8; BLOCK_SIZE];
         pad(&mut last, &block[..waiting], total);
         return hash_bytes(absorb(hash, &last));
     }

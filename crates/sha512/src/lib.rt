@@ -9,12 +9,13 @@ pub use last_block::finish;
 pub use last_block::of_message;
 pub use parts::begin;
 pub use parts::feed;
+use sha512_block::BLOCK_SIZE;
 
 // A digest under way: the hash value after the whole blocks, the bytes that wait for the next block
 // (the first total % 128 of it, then zeros), and the count of all bytes, modulo 2 to the 64th.
 #[repr(C)]
 pub struct Running {
     pub hash: sha512_block::Hash,
-    pub block: [u8; 128],
+    pub block: [u8; BLOCK_SIZE],
     pub total: u64,
 }

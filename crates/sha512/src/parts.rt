@@ -1,5 +1,6 @@
 // A message that comes in parts. The state goes in by value and comes back.
 use super::Running;
+use sha512_block::BLOCK_SIZE;
 use sha512_block::Hash;
 use sha512_block::absorb;
 use sha512_block::initial_hash;
@@ -10,6 +11,7 @@ ghost use mathlib.Core.Path.{_≡_};
 ghost use mathlib.Core.List.{_++_};
 ghost use Prim.Native.Nat.{_+_, _≤_};
 ghost use lib.ListN.{length};
+ghost use Rattle.sha512_block.specs.Blocks.{blockSize};
 ghost use Rattle.sha512.specs.Feeding.{filled, begun, after, fed};
 
 pub fn begin() -> Running
@@ -17,17 +19,17 @@ pub fn begin() -> Running
 {
     Running {
         hash: initial_hash(),
-        block: [0; 128],
+        block: [0; BLOCK_SIZE],
         total: 0,
     }
 }
 
 // A block of the bytes of `head`, then those of `more`, then zeros.
-fn fill(head: &[u8], more: &[u8]) -> [u8; 128]
-    requires { ⌜ length (now head) + length (now more) ≤ 128 ⌝ }
+fn fill(head: &[u8], more: &[u8]) -> [u8; BLOCK_SIZE]
+    requires { ⌜ length (now head) + length (now more) ≤ blockSize ⌝ }
     ensures { λ r. ⌜ r ≡ filled (now (head .entry) ++ now (more .entry)) ⌝ }
 {
-    let mut block = [0u8; 128];
+    let mut block = [0u8; BLOCK_SIZE];
     copy(&mut block, head);
     copy_at(&mut block, head.len(), more);
     block
@@ -37,7 +39,7 @@ fn fill(head: &[u8], more: &[u8]) -> [u8; 128]
 fn feed_aligned(hash: Hash, total: u64, part: &[u8]) -> Running
     ensures { λ r. ⌜ r ≡ after hash total (now (part .entry)) ⌝ }
 {
-    let whole = part.len() / 128 * 128;
+    let whole = part.len() / BLOCK_SIZE * BLOCK_SIZE;
     Running {
         hash: absorb(hash, part),
         block: fill(&part[whole..], b""),
@@ -50,13 +52,13 @@ pub fn feed(state: Running, part: &[u8]) -> Running
     ensures { λ r. ⌜ r ≡ fed state (now (part .entry)) ⌝ }
 {
     let total = wrapping_add_u64(state.total, part.len() as u64);
-    let waiting = (state.total % 128) as usize;
+    let waiting = (state.total % BLOCK_SIZE as u64) as usize;
     let hash = state.hash;
     if waiting == 0 {
         return feed_aligned(hash, total, part);
     }
     let block = state.block;
-    let room = 128 - waiting;
+    let room = BLOCK_SIZE - waiting;
     if part.len() < room {
         return Running {
             hash,

@@ -10,7 +10,7 @@ use lib.Seq.{take-suc-set, getD-take}
 use Rattle.stretch.specs.BigEndian.{bigEndian}
 use Rattle.sha512_block.specs.declared.Hash.{Hash}
 use Rattle.sha512_block.specs.Block.{blockWords, scheduled, schedule, roundAt, rounds, compressed}
-use Rattle.sha512_block.specs.Blocks.{absorbed}
+use Rattle.sha512_block.specs.Blocks.{absorbed, blockSize}
 
 pub load-turn : (w b : List ℕ) (t v : ℕ) → t < length w → take t w ≡ blockWords t b → v ≡ bigEndian 8 b (t * 8)
     → take (t + 1) (set w t v) ≡ blockWords (t + 1) b
@@ -42,6 +42,6 @@ unfolding rounds
 round-turn w s₀ s r t u n e q = q ∙ ap (roundAt t w) e ∙ ap (λ (k : ℕ). rounds k w s₀) (sym (n ∙ add-one t))
 
 pub absorb-turn : (s₀ s r : Hash) (m : List ℕ) (i : ℕ) → s ≡ absorbed i s₀ m
-    → r ≡ compressed s (take 128 (drop (i * 128) m)) → r ≡ absorbed (i + 1) s₀ m
+    → r ≡ compressed s (take blockSize (drop (i * blockSize) m)) → r ≡ absorbed (i + 1) s₀ m
 unfolding absorbed
 absorb-turn s₀ s r m i e q = rw (add-one, ← e, q)

@@ -1,4 +1,5 @@
 // The block step: FIPS 180-4, section 6.4.2, with the whole schedule of 80 words.
+use super::BLOCK_SIZE;
 use super::Hash;
 use super::constants::round_constants;
 use super::words::add;
@@ -15,12 +16,12 @@ ghost use lib.ListN.{length, take};
 ghost use Rattle.sha512_block.specs.Constants.{K};
 ghost use Rattle.sha512_block.specs.Words.{_⊞_, σ₀, σ₁};
 ghost use Rattle.sha512_block.specs.Block.{blockWords, schedule, round, roundAt, rounds, chained, compressed};
-ghost use Rattle.sha512_block.specs.Blocks.{hashed};
+ghost use Rattle.sha512_block.specs.Blocks.{hashed, blockSize};
 
 // The block's sixteen words at the front of the schedule.
 fn load(w: &mut [u64; 80], block: &[u8])
     requires { ⌜ length (now w) ≡ 80 ⌝ }
-    requires { ⌜ length (now block) ≡ 128 ⌝ }
+    requires { ⌜ length (now block) ≡ blockSize ⌝ }
     ensures { λ _. ⌜ length (now (w .exit)) ≡ 80 ⌝ }
     ensures { λ _. ⌜ take 16 (now (w .exit)) ≡ blockWords 16 (now (block .entry)) ⌝ }
 {
@@ -111,7 +112,7 @@ fn chain(s: Hash, t: Hash) -> Hash
 }
 
 fn compress(s: Hash, block: &[u8], k: &[u64; 80]) -> Hash
-    requires { ⌜ length (now block) ≡ 128 ⌝ }
+    requires { ⌜ length (now block) ≡ blockSize ⌝ }
     requires { ⌜ now k ≡ K ⌝ }
     ensures { λ r. ⌜ r ≡ compressed s (now (block .entry)) ⌝ }
 {
@@ -126,12 +127,12 @@ pub fn absorb(start: Hash, bytes: &[u8]) -> Hash
     ensures { λ r. ⌜ r ≡ hashed start (now (bytes .entry)) ⌝ }
 {
     let k = round_constants();
-    let count = bytes.len() / 128;
+    let count = bytes.len() / BLOCK_SIZE;
     let mut s = start;
     let mut i = 0;
     while i < count {
-        let at = i * 128;
-        s = compress(s, &bytes[at..at + 128], &k);
+        let at = i * BLOCK_SIZE;
+        s = compress(s, &bytes[at..at + BLOCK_SIZE], &k);
         i += 1;
     }
     s

@@ -7,6 +7,9 @@ mod words;
 pub use block::absorb;
 pub use constants::initial_hash;
 
+// The bytes of a block.
+pub const BLOCK_SIZE: usize = 128;
+
 // A hash value of eight words; also a round's eight working variables.
 #[repr(C)]
 pub struct Hash {

@@ -4,6 +4,7 @@ use native.Mathlib.Omega.{arith}
 use mathlib.Core.Path.{_≡_, ap, _∙_}
 use mathlib.Core.List.{List, [], _∷_, _++_, append-assoc}
 use lib.ListN.{length, set, drop, replicate, length-append, length-set, length-replicate, replicate-append-replicate}
+use Rattle.sha512_block.specs.Blocks.{blockSize}
 use Rattle.stretch.specs.Over.{over}
 use Rattle.stretch.proofs.Over.{over-front, over-next, over-end, set-over, length-over}
 use Rattle.sha512_padding.specs.Padding.{bytesOf, padding}
@@ -35,24 +36,24 @@ over-zeros h t n k p e q =
       append-assoc,
     )
 
-pub length-padding : (n : ℕ) → length (padding n) ≡ 17 + (239 - n % 128) % 128
+pub length-padding : (n : ℕ) → length (padding n) ≡ 17 + (239 - n % blockSize) % blockSize
 unfolding padding
 length-padding n = simp (length-append, length-replicate, length-bytesOf) (omega arith)
 
 -- as many zeros as bytes that wait and their padding
-pub zeros-for : (head : List ℕ) (n k : ℕ) → length head ≡ n % 128 → k ≡ n % 128 + (17 + (239 - n % 128) % 128)
+pub zeros-for : (head : List ℕ) (n k : ℕ) → length head ≡ n % blockSize → k ≡ n % blockSize + (17 + (239 - n % blockSize) % blockSize)
     → replicate {A = ℕ} k 0 ≡ replicate (length head + length (padding n)) 0
 zeros-for head n k e q = rw (length-padding, e, q)
 
 pub pad-laid : (zeros head : List ℕ) (n : ℕ) → zeros ≡ replicate (length head + length (padding n)) 0
-    → length head ≡ n % 128
+    → length head ≡ n % blockSize
     → over (set (over zeros 0 head) (length head) 0x80) (length (set (over zeros 0 head) (length head) 0x80) - 16)
     (bytesOf 16 (n * 8)) ≡ head ++ padding n
 unfolding padding
 pad-laid zeros head n z e =
     let long : length zeros ≡ length head + length (padding n) = ap length z
     ∙ length-replicate (length head + length (padding n)) 0 in
-    let count : length (padding n) ≡ 17 + (239 - n % 128) % 128 = length-padding n in
+    let count : length (padding n) ≡ 17 + (239 - n % blockSize) % blockSize = length-padding n in
     let kept : length (over zeros 0 head) ≡ length zeros = length-over zeros 0 head (omega arith) in
     let set-kept : length (set (over zeros 0 head) (length head) 0x80) ≡ length (over zeros 0 head) =
     length-set (over zeros 0 head) (length head) 0x80 in
@@ -63,6 +64,6 @@ pad-laid zeros head n z e =
     (set-over (over zeros 0 head) (length head) 0x80 (omega arith)
     ∙ over-next zeros 0 (length head) head (0x80 ∷ []) (omega arith) (omega arith)
     ∙ ap (λ (l : List ℕ). over l 0 (head ++ (0x80 ∷ []))) z)
-    ∙ over-zeros (head ++ (0x80 ∷ [])) (bytesOf 16 (n * 8)) (length head + length (padding n)) ((239 - n % 128) % 128)
+    ∙ over-zeros (head ++ (0x80 ∷ [])) (bytesOf 16 (n * 8)) (length head + length (padding n)) ((239 - n % blockSize) % blockSize)
     p (omega arith) (omega arith)
-    ∙ append-assoc head (0x80 ∷ []) (replicate ((239 - n % 128) % 128) 0 ++ bytesOf 16 (n * 8))
+    ∙ append-assoc head (0x80 ∷ []) (replicate ((239 - n % blockSize) % blockSize) 0 ++ bytesOf 16 (n * 8))

@@ -2,6 +2,7 @@
 use Prim.Native.Nat.{ℕ, zero, suc, _-_, _*_, _/_, _%_}
 use mathlib.Core.List.{List, [], _∷_, _++_}
 use lib.ListN.{replicate}
+use Rattle.sha512_block.specs.Blocks.{blockSize}
 use Rattle.sha512_block.specs.declared.Hash.{Hash}
 
 -- the n bytes of a number, the most significant first
@@ -12,7 +13,7 @@ bytesOf (suc n) x = bytesOf n (x / 256) ++ (x % 256 ∷ [])
 -- what follows a message of n bytes: a bit 1, as few zeros as fill the last block up to its last 16 bytes, and there
 -- the length in bits
 unfoldable pub padding : ℕ → List ℕ
-padding n = 0x80 ∷ (replicate ((239 - n % 128) % 128) 0 ++ bytesOf 16 (n * 8))
+padding n = 0x80 ∷ (replicate ((239 - n % blockSize) % blockSize) 0 ++ bytesOf 16 (n * 8))
 
 -- four words as bytes
 unfoldable pub fourWords : ℕ → ℕ → ℕ → ℕ → List ℕ

@@ -7,6 +7,7 @@ ghost use mathlib.Core.Path.{_≡_};
 ghost use mathlib.Core.List.{_++_};
 ghost use Prim.Native.Nat.{_+_, _-_, _*_, _%_, _≤_};
 ghost use lib.ListN.{length, replicate};
+ghost use Rattle.sha512_block.specs.Blocks.{blockSize};
 ghost use Rattle.stretch.specs.Over.{over};
 ghost use Rattle.sha512_padding.specs.Padding.{bytesOf, padding, hashBytes};
 
@@ -23,7 +24,7 @@ fn put_length(out: &mut [u8], total: u64)
 
 // Fills `out`, which holds zeros, with `head` and the padding of a message of `total` bytes.
 pub fn pad(out: &mut [u8], head: &[u8], total: u64)
-    requires { ⌜ length (now head) ≡ total % 128 ⌝ }
+    requires { ⌜ length (now head) ≡ total % blockSize ⌝ }
     requires { ⌜ now out ≡ replicate (length (now head) + length (padding total)) 0 ⌝ }
     ensures { λ _. ⌜ now (out .exit) ≡ now (head .entry) ++ padding total ⌝ }
 {

@@ -5,17 +5,21 @@ use mathlib.Core.Path.{_≡_, sym}
 use lib.ListN.{take, length}
 use lib.Seq.{length-take-le}
 use borrow.Author.Needs.{needs}
+use Rattle.sha512_block.specs.Blocks.{blockSize}
 use Rattle.sha512_padding.proofs.Padding.{zeros-for}
 use Rattle.sha512.specs.Feeding.{finished, waiting}
 use Rattle.sha512.proofs.last_block.finish.Statement.{statement}
 use Rattle.sha512.proofs.last_block.finish.Tie as tie
 
-long : (c : tie.Start) → length (c .args .state .block) ≡ 128
+long : (c : tie.Start) → length (c .args .state .block) ≡ blockSize
 long c = search needs
 
 waits : (c : tie.Start)
-    → length (take (c .args .state .total % 128) (c .args .state .block)) ≡ c .args .state .total % 128
+    → length (take (c .args .state .total % blockSize) (c .args .state .block)) ≡ c .args .state .total % blockSize
 waits c = length-take-le _ _ (omega (arith, long c))
+
+rem-waiting : tie.Need-rem-waiting
+rem-waiting c = search needs
 
 slice-aggregate-pad : tie.Need-slice-aggregate-pad
 slice-aggregate-pad c = search needs
@@ -29,7 +33,7 @@ slice-aggregate-pad-2 c = sym (waits (c .before .before .before .before .before 
 pad-requires : tie.Need-pad-requires
 pad-requires c κs = let s = c .before .before .before .before .before .before in (
   waits s,
-  zeros-for (take (s .args .state .total % 128) (s .args .state .block)) (s .args .state .total) 128
+  zeros-for (take (s .args .state .total % blockSize) (s .args .state .block)) (s .args .state .total) 128
       (waits s) (omega arith),
 )
 
@@ -58,7 +62,7 @@ slice-aggregate-pad-4 c = sym (waits (c .before .before .before .before .before 
 pad-requires-2 : tie.Need-pad-requires-2
 pad-requires-2 c κs = let s = c .before .before .before .before .before .before in (
   waits s,
-  zeros-for (take (s .args .state .total % 128) (s .args .state .block)) (s .args .state .total) 256
+  zeros-for (take (s .args .state .total % blockSize) (s .args .state .block)) (s .args .state .total) 256
       (waits s) (omega arith),
 )
 
@@ -79,6 +83,7 @@ pub finish-spec : {M : Type 1} → statement M
 finish-spec =
     tie.close
     (tie.spec
+    rem-waiting
     slice-aggregate-pad
     array-share-prefix-block
     slice-aggregate-pad-2

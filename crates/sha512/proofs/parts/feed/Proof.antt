@@ -5,17 +5,21 @@ use mathlib.Core.Path.{_≡_, _∙_, sym}
 use lib.ListN.{length, length-append, length-take}
 use lib.Seq.{length-take-le}
 use borrow.Author.Needs.{needs}
+use Rattle.sha512_block.specs.Blocks.{blockSize}
 use Rattle.stretch.proofs.Tail.{lent-tail}
 use Rattle.sha512.proofs.Join.{fed-aligned, fed-short, fed-past}
 use Rattle.sha512.specs.Feeding.{waiting}
 use Rattle.sha512.proofs.parts.feed.Statement.{statement}
 use Rattle.sha512.proofs.parts.feed.Tie as tie
 
-block-long : (c : tie.Start) → length (c .args .state .block) ≡ 128
+block-long : (c : tie.Start) → length (c .args .state .block) ≡ blockSize
 block-long c = search needs
 
 wrapping-add-u64-requires : tie.Need-wrapping-add-u64-requires
 wrapping-add-u64-requires c κs = search needs
+
+rem-waiting : tie.Need-rem-waiting
+rem-waiting c = search needs
 
 feed-aligned-requires : tie.Need-feed-aligned-requires
 feed-aligned-requires c κs = search needs
@@ -81,10 +85,10 @@ returns-3 c =
     let c₄ = c .before .before .before .before in
     let c₁₂ = c₄ .before .before .before .before .before .before .before .before in
     let s = c₁₂ .before .before in
-    let b : length (s .args .state .block) ≡ 128 = block-long s in
+    let b : length (s .args .state .block) ≡ blockSize = block-long s in
     c .feed-aligned2 .ensures
     ∙ rw (lent-tail, c .before .before .absorb .ensures, c₄ .fill2 .ensures, c₁₂ .wrapping-add-u64 .ensures)
-    (fed-past (s .args .state) (s .args .part .now) (128 - s .args .state .total % 128)
+    (fed-past (s .args .state) (s .args .part .now) (blockSize - s .args .state .total % blockSize)
     (rw (length-append, length-take, length-take) (omega arith)))
 
 pub feed-spec : {M : Type 1} → statement M
@@ -92,6 +96,7 @@ feed-spec =
     tie.close
     (tie.spec
     wrapping-add-u64-requires
+    rem-waiting
     feed-aligned-requires
     returns
     sub-room

@@ -4,16 +4,16 @@ use native.Mathlib.Omega.{arith}
 use mathlib.Core.Path.{_≡_, refl}
 use lib.ListN.{length, length-take, length-drop}
 use borrow.Author.Needs.{needs}
-use Rattle.sha512_block.specs.Blocks.{absorbed, hashed}
+use Rattle.sha512_block.specs.Blocks.{absorbed, hashed, blockSize}
 use Rattle.sha512_block.proofs.Step.{absorb-turn}
 use Rattle.sha512_block.proofs.block.absorb.Statement.{statement}
 use Rattle.sha512_block.proofs.block.absorb.Tie as tie
 
 abbrev Inv-loop : tie.InvT-loop
-Inv-loop bytes k count s₀ i₀ s i = (i ≤ length bytes / 128) × (s ≡ absorbed i s₀ bytes)
+Inv-loop bytes k count s₀ i₀ s i = (i ≤ length bytes / blockSize) × (s ≡ absorbed i s₀ bytes)
 
 abbrev μ-loop : tie.MeasureT-loop
-μ-loop bytes k count s₀ i₀ s i = length bytes / 128 - i
+μ-loop bytes k count s₀ i₀ s i = length bytes / blockSize - i
 
 round-constants-requires : tie.Need-round-constants-requires Inv-loop μ-loop
 round-constants-requires c κs = search needs
@@ -39,7 +39,7 @@ part-compress-end c = omega arith
 
 compress-requires : tie.Need-compress-requires Inv-loop μ-loop
 compress-requires c κs =
-    let e : c .before .before .before .loop .i * 128 + 128 - c .before .before .before .loop .i * 128 ≡ 128 =
+    let e : c .before .before .before .loop .i * blockSize + blockSize - c .before .before .before .loop .i * blockSize ≡ blockSize =
     omega arith in
     (rw (e, length-take, length-drop) (omega arith), c .before .before .before .before .round-constants .ensures)
 
@@ -52,12 +52,12 @@ loop-less c = omega arith
 loop-again : tie.Need-loop-again Inv-loop μ-loop
 loop-again c =
     let c₄ = c .before .before .before .before in
-    let e : c₄ .loop .i * 128 + 128 - c₄ .loop .i * 128 ≡ 128 = omega arith in
+    let e : c₄ .loop .i * blockSize + blockSize - c₄ .loop .i * blockSize ≡ blockSize = omega arith in
     (omega arith, absorb-turn _ (c₄ .loop .s) _ _ _ (c₄ .loop .inv .1) (rw e at (c .compress .ensures)))
 
 returns : tie.Need-returns Inv-loop μ-loop
 unfolding hashed
-returns c = let e : c .before .loop .i ≡ length (c .before .before .before .before .args .bytes .now) / 128 =
+returns c = let e : c .before .loop .i ≡ length (c .before .before .before .before .args .bytes .now) / blockSize =
     omega arith in
     rw e at (c .before .loop .inv .1)
 
