@@ -54,19 +54,19 @@ numbered-is (Is m) (Is n) y start end x e = cc
 numbered-is (Is m) Absent y start end x e = cc
 numbered-is Absent b y start end x e = cc
 
-said-short : (fields : List (List ℕ)) (start end : ℕ) (x : List ℕ) → meaningOfFields fields ≡ allele start end x
+meaning-short : (fields : List (List ℕ)) (start end : ℕ) (x : List ℕ) → meaningOfFields fields ≡ allele start end x
     → length x ≤ length (getD fields 2 [])
-said-short [] start end x e = let z : _≡_ {A = ℕ} 0 1 = cc in absurd (omega arith)
-said-short (a ∷ []) start end x e = let z : _≡_ {A = ℕ} 0 1 = cc in absurd (omega arith)
-said-short (a ∷ b ∷ []) start end x e = let z : _≡_ {A = ℕ} 0 1 = cc in absurd (omega arith)
-said-short (a ∷ b ∷ [] ∷ []) start end x e = let z : _≡_ {A = ℕ} 0 1 = cc in absurd (omega arith)
-said-short (a ∷ b ∷ (c ∷ y) ∷ []) start end x e =
+meaning-short [] start end x e = let z : _≡_ {A = ℕ} 0 1 = cc in absurd (omega arith)
+meaning-short (a ∷ []) start end x e = let z : _≡_ {A = ℕ} 0 1 = cc in absurd (omega arith)
+meaning-short (a ∷ b ∷ []) start end x e = let z : _≡_ {A = ℕ} 0 1 = cc in absurd (omega arith)
+meaning-short (a ∷ b ∷ [] ∷ []) start end x e = let z : _≡_ {A = ℕ} 0 1 = cc in absurd (omega arith)
+meaning-short (a ∷ b ∷ (c ∷ y) ∷ []) start end x e =
     omega (
       arith,
       replacement-short (c ∷ y),
       ap length (numbered-is (numberOf a) (numberOf b) (replacementOf (c ∷ y)) start end x e),
     )
-said-short (a ∷ b ∷ y ∷ w ∷ fields) start end x e = let z : _≡_ {A = ℕ} 0 1 = cc in absurd (omega arith)
+meaning-short (a ∷ b ∷ y ∷ w ∷ fields) start end x e = let z : _≡_ {A = ℕ} 0 1 = cc in absurd (omega arith)
 
 -- a refusal has the number of one of its grounds
 numbers : ℕ → List Ground → Bool
@@ -133,7 +133,7 @@ text-short r line (allele start end x) e =
     omega (
       arith,
       verdict-short r start end x (verdict (formGrounds r start end x)) refl,
-      said-short (parted space line) start end x e,
+      meaning-short (parted space line) start end x e,
       parted-short space line 2,
     )
 

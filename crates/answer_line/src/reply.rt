@@ -78,8 +78,8 @@ pub fn answer(reference: &[u8], line: &[u8], out: &mut [u8]) -> usize
     ensures { λ r. ⌜
         Wrote (now (out .entry)) 0 (answerLine (now (reference .entry)) (now (line .entry))) (now (out .exit)) r ⌝ }
 {
-    let says = read_line(line);
-    match says {
+    let meant = read_line(line);
+    match meant {
         Line::Allele { start, end, from } => answer_allele(
             reference,
             start,

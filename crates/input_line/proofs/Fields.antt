@@ -22,8 +22,8 @@ use Rattle.input_line.specs.Meaning.{ReadsLine}
 use Rattle.input_line.specs.Inner.{Fields}
 
 module _ (line : List ℕ) where
-  pub says-nothing : meaningOf line ≡ unread → ReadsLine line Unread
-  says-nothing e = record { means = sym e; inside = omega arith }
+  pub reads-nothing : meaningOf line ≡ unread → ReadsLine line Unread
+  reads-nothing e = record { means = sym e; inside = omega arith }
 
   -- one field, and two
   pub one-field : nextOf space line 0 ≡ length line → meaningOf line ≡ unread

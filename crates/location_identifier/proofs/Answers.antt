@@ -97,15 +97,15 @@ module _ (n start end : ℕ) (digest text out : List ℕ) (place needed : ℕ)
       rw (← long (output-digest n start end digest (length out) place needed e))
       (output-room n start end digest (length out) place needed e)
 
-  pub output-says : (answer : Written) (left : List ℕ)
+  pub output-writes : (answer : Written) (left : List ℕ)
       → Accepted ≡ outputAnswer n start end digest (length out) place needed
       → Writes accepted text out place answer left
       → WritesUnless (locationGrounds n start end digest) text out place answer left
   unfolding outputAnswer WritesUnless ends
-  output-says answer left e p =
+  output-writes answer left e p =
       writes-as _ text out place accepted text answer left (same _ refl ∙ outcome-accepted _ e) refl p
 
-  pub output-silent : (why : Refusal) → Refused why ≡ outputAnswer n start end digest (length out) place needed
+  pub output-refused : (why : Refusal) → Refused why ≡ outputAnswer n start end digest (length out) place needed
       → WritesUnless (locationGrounds n start end digest) text out place (WrittenRefused why) out
   unfolding outputAnswer WritesUnless ends
-  output-silent why e = writes-nothing _ text out place why (same _ refl ∙ outcome-refused _ why e)
+  output-refused why e = writes-nothing _ text out place why (same _ refl ∙ outcome-refused _ why e)

@@ -132,13 +132,13 @@ module _ (location sequence : List ℕ) (d : Digest location) (l : Residues sequ
   sequence-of-back s h = sequence-of-once (alleleText location sequence) s sequence h (hands written-allele)
 
 -- what is read is what the text says
-pub record LocationSays (text : List ℕ) (p : LocationParts) : Type 0 where
+pub record LocationMeans (text : List ℕ) (p : LocationParts) : Type 0 where
   pub is : LocationText text
   pub start : p .start ≡ is .start
   pub end : p .end ≡ is .end
   pub digest : Lies text (p .digest) digestLength (is .digest)
 
-pub record AlleleSays (text : List ℕ) (p : AlleleParts) : Type 0 where
+pub record AlleleMeans (text : List ℕ) (p : AlleleParts) : Type 0 where
   pub is : AlleleText text
   pub location : Lies text (p .location) digestLength (is .location)
   pub sequence : Lies text (p .sequence) (p .length) (is .sequence)
@@ -146,9 +146,9 @@ pub record AlleleSays (text : List ℕ) (p : AlleleParts) : Type 0 where
 regroup : (b c d e f x : List ℕ) → b ++ (c ++ (d ++ (e ++ f))) ++ x ≡ b ++ (c ++ (d ++ (e ++ (f ++ x))))
 regroup b c d e f x = simp append-assoc
 
-pub reads-location-says : (text : List ℕ) (p : LocationParts) → ReadsLocation text (Accepted p) → LocationSays text p
+pub reads-location-means : (text : List ℕ) (p : LocationParts) → ReadsLocation text (Accepted p) → LocationMeans text p
 unfolding locationText
-reads-location-says text p (accepts a) =
+reads-location-means text p (accepts a) =
     let front = beforeEnd ++ (decimal (a .end) ++ (beforeStart ++ (decimal (a .start) ++ beforeDigest))) in
     let whole : text ≡ front ++ (a .digest ++ afterDigest)
     = a .laid ∙ sym (regroup beforeEnd (decimal (a .end)) beforeStart (decimal (a .start)) beforeDigest
@@ -162,9 +162,9 @@ reads-location-says text p (accepts a) =
           (simp length-append (omega arith)) (a .digests .long);
     }
 
-pub reads-allele-says : (text : List ℕ) (p : AlleleParts) → ReadsAllele text (AlleleAccepted p) → AlleleSays text p
+pub reads-allele-means : (text : List ℕ) (p : AlleleParts) → ReadsAllele text (AlleleAccepted p) → AlleleMeans text p
 unfolding alleleText
-reads-allele-says text p (accepts-allele a) =
+reads-allele-means text p (accepts-allele a) =
     let front = beforeLocation ++ (a .location ++ beforeSequence) in
     let whole : text ≡ front ++ (a .sequence ++ afterSequence)
     = a .laid ∙ ap (λ (l : List ℕ). beforeLocation ++ l)
@@ -180,8 +180,8 @@ reads-allele-says text p (accepts-allele a) =
 
 -- by the answer that is held
 module _ {text : List ℕ} {answer : LocationRead} (r : ReadsLocation text answer) where
-  pub accepted-location : {p : LocationParts} → answer ≡ Accepted p → LocationSays text p
-  accepted-location {p} e = reads-location-says text p (rw e at r)
+  pub accepted-location : {p : LocationParts} → answer ≡ Accepted p → LocationMeans text p
+  accepted-location {p} e = reads-location-means text p (rw e at r)
 
   pub refused-location : {why : Refusal} → answer ≡ Refused why → LocationText text → ⊥
   refused-location {why} e = other why (rw e at r)
@@ -190,8 +190,8 @@ module _ {text : List ℕ} {answer : LocationRead} (r : ReadsLocation text answe
       other _ (refuses i q) = q .other
 
 module _ {text : List ℕ} {answer : AlleleRead} (r : ReadsAllele text answer) where
-  pub accepted-allele : {p : AlleleParts} → answer ≡ AlleleAccepted p → AlleleSays text p
-  accepted-allele {p} e = reads-allele-says text p (rw e at r)
+  pub accepted-allele : {p : AlleleParts} → answer ≡ AlleleAccepted p → AlleleMeans text p
+  accepted-allele {p} e = reads-allele-means text p (rw e at r)
 
   pub refused-allele : {why : Refusal} → answer ≡ AlleleRefused why → AlleleText text → ⊥
   refused-allele {why} e = other why (rw e at r)

@@ -21,7 +21,7 @@ pub record Sort : Type 1 where
   pub write : Value → List ℕ
   pub Kind : List ℕ → Type 0
   pub kind : (v : Value) → Fits v → Kind (write v)
-  pub says : (w : List ℕ) → Kind w → (v : Value) × Fits v × (w ≡ write v)
+  pub means : (w : List ℕ) → Kind w → (v : Value) × Fits v × (w ≡ write v)
   pub once : (v v′ : Value) → write v ≡ write v′ → v ≡ v′
   pub some : Value
   pub fits-some : Fits some
@@ -35,7 +35,7 @@ wordSort word =
       write = λ _. word;
       Kind = Word word;
       kind = λ _ _. refl;
-      says = λ _ e. (tt, tt, e);
+      means = λ _ e. (tt, tt, e);
       once = λ _ _ _. refl;
       some = tt;
       fits-some = tt;
@@ -50,7 +50,7 @@ spelt Kind w k =
       write = λ v. v;
       Kind = Kind;
       kind = λ _ k. k;
-      says = λ w k. (w, k, refl);
+      means = λ w k. (w, k, refl);
       once = λ _ _ e. e;
       some = w;
       fits-some = k;
@@ -71,7 +71,7 @@ numberSort least most ordered =
       write = decimal;
       Kind = DecimalFrom least most;
       kind = λ n f. decimal-from n (f .0) (f .1);
-      says = λ _ d. (d .number, (d .large, d .small), d .digits);
+      means = λ _ d. (d .number, (d .large, d .small), d .digits);
       once = decimal-injective;
       some = least;
       fits-some = (omega arith, ordered);
@@ -112,7 +112,7 @@ pub record Laid (l : Layout) (text : List ℕ) : Type 0 where
 pub record Next (s : Sort) (next : s .Value → Layout) (w text : List ℕ) : Type 0 where
   pub value : s .Value
   pub fits : s .Fits value
-  pub says : w ≡ s .write value
+  pub means : w ≡ s .write value
   pub follows : Laid (next value) text
 
 -- no word goes on where the next one may begin
@@ -165,7 +165,7 @@ some (then s next) = (s .some, s .fits-some, some (next (s .some)))
 -- by one word, and then the rest
 module _ (s : Sort) (next : s .Value → Layout) where
   after : (v : Values (then s next)) → Next s next (s .write (v .0)) (written (next (v .0)) (v .2))
-  after v = record { value = v .0; fits = v .1; says = refl; follows = record { values = v .2; laid = refl } }
+  after v = record { value = v .0; fits = v .1; means = refl; follows = record { values = v .2; laid = refl } }
 
   pub laid-then : (text : List ℕ) → Laid (then s next) text → Then (s .Kind) (Next s next) text
   laid-then text l =
@@ -175,15 +175,15 @@ module _ (s : Sort) (next : s .Value → Layout) where
   pub then-laid : (text : List ℕ) → Then (s .Kind) (Next s next) text → Laid (then s next) text
   then-laid text t =
       let n = t .follows in
-      record { values = (n .value, n .fits, n .follows .values); laid = then-is t (n .says) (n .follows .laid) }
+      record { values = (n .value, n .fits, n .follows .values); laid = then-is t (n .means) (n .follows .laid) }
 
   pub opens : (w : List ℕ) → s .Kind w → Open (Next s next w)
   opens w k =
-      let r = s .says w k in
+      let r = s .means w k in
       let v = some (next (r .0)) in
       record {
         text = written (next (r .0)) v;
-        is-text = record { value = r .0; fits = r .1; says = r .2; follows = record { values = v; laid = refl } };
+        is-text = record { value = r .0; fits = r .1; means = r .2; follows = record { values = v; laid = refl } };
       }
 
   -- texts that are one have one first value, and then texts that are one

@@ -23,22 +23,22 @@ use Rattle.words.proofs.Layouts.{Values, written, Laid, Next, Sound, la
 pub record Step (s : Sort) (text : List ℕ) (a b : Walk) (v : s .Value) : Type 0 where
   pub onward : Onward (s .Kind) text a b
   pub fits : a .on ≡ true → b .on ≡ true → s .Fits v
-  pub says : a .on ≡ true → b .on ≡ true → part text (a .at) (b .at) ≡ s .write v
+  pub means : a .on ≡ true → b .on ≡ true → part text (a .at) (b .at) ≡ s .write v
 
 module _ {text : List ℕ} {a b : Walk} where
   pub step-word : {w : List ℕ} → Onward (Word w) text a b → Step (wordSort w) text a b tt
-  step-word o = record { onward = o; fits = λ _ _. tt; says = λ d e. o .goes d e .word }
+  step-word o = record { onward = o; fits = λ _ _. tt; means = λ d e. o .goes d e .word }
 
   pub step-digest : Onward Digest text a b → Step digestSort text a b (part text (a .at) (b .at))
-  step-digest o = record { onward = o; fits = λ d e. o .goes d e .word; says = λ _ _. refl }
+  step-digest o = record { onward = o; fits = λ d e. o .goes d e .word; means = λ _ _. refl }
 
   pub step-residues : {most : ℕ} → Onward (Residues most) text a b
       → Step (residuesSort most) text a b (part text (a .at) (b .at))
-  step-residues o = record { onward = o; fits = λ d e. o .goes d e .word; says = λ _ _. refl }
+  step-residues o = record { onward = o; fits = λ d e. o .goes d e .word; means = λ _ _. refl }
 
   pub step-number : {least most n : ℕ} {ordered : least ≤ most} → Counts least most text a b n
       → Step (numberSort least most ordered) text a b n
-  step-number o = record { onward = o .onward; fits = λ d e. (o .large d e, o .small); says = o .digits }
+  step-number o = record { onward = o .onward; fits = λ d e. (o .large d e, o .small); means = o .digits }
 
 -- a walk past all of them, from the front of the text
 abbrev pub begun : Walk
@@ -79,7 +79,7 @@ module _ (text : List ℕ) where
       let d = walked-on (next (w .1)) c b (w .3) e in
       let rest = written (next (w .1)) (found (next (w .1)) c b (w .3) e) in
       drop-start text (a .at) (c .at) (w .2 .onward .forth)
-      ∙ (λ i. w .2 .says (walked-on (then s next) a b w e) d i ++ found-all (next (w .1)) c b (w .3) e i)
+      ∙ (λ i. w .2 .means (walked-on (then s next) a b w e) d i ++ found-all (next (w .1)) c b (w .3) e i)
       ∙ sym (append-assoc (s .write (w .1)) rest (drop (b .at) text))
 
   -- each word ends as far from where it begins as what it says is long
@@ -92,8 +92,8 @@ module _ (text : List ℕ) where
   walked-placed (then s next) a b w e =
       let o = w .2 .onward in
       let d = walked-on (next (w .1)) (w .0) b (w .3) e in
-      let said = ap length (w .2 .says (walked-on (then s next) a b w e) d) in (
-        omega (arith, o .forth, length-part text (a .at) (w .0 .at) (o .forth) (o .within), said),
+      let long = ap length (w .2 .means (walked-on (then s next) a b w e) d) in (
+        omega (arith, o .forth, length-part text (a .at) (w .0 .at) (o .forth) (o .within), long),
         walked-placed (next (w .1)) (w .0) b (w .3) e,
       )
 
@@ -120,12 +120,12 @@ module _ (text : List ℕ) where
 
       laid-next : (t : List ℕ) → Laid (next v) t → Next s next (take steps left) t
       unfolding left steps
-      laid-next t l = record { value = v; fits = o .fits on e; says = o .says on e; follows = l }
+      laid-next t l = record { value = v; fits = o .fits on e; means = o .means on e; follows = l }
 
       next-laid : (t : List ℕ) → Next s next (take steps left) t → Laid (next v) t
       unfolding left steps
       next-laid t n =
-          let same : n .value ≡ v = s .once (n .value) v (sym (n .says) ∙ o .says on e) in
+          let same : n .value ≡ v = s .once (n .value) v (sym (n .means) ∙ o .means on e) in
           subst (λ (u : s .Value). Laid (next u) t) same (n .follows)
 
       step-refuses : (i : ℕ) → Refuses (Laid (next v)) (drop (c .at) text) i

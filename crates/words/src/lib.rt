@@ -2,7 +2,7 @@
 // identifiers"). Which words a text has is said above, in `text_reader`.
 //
 // specs/Prefix.antt has the longest prefix that begins some accepted text, specs/Vocabulary.antt the
-// words, specs/Walk.antt how a text is read by them.
+// words, specs/Walk.antt how a text is read by them, and proofs/Layouts.antt a text as a table of words.
 mod range;
 mod words;
 

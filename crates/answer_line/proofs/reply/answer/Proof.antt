@@ -8,14 +8,14 @@ use Rattle.answer_line.proofs.reply.answer.Tie as tie
 read-line-requires : tie.Need-read-line-requires
 read-line-requires c κs = search needs
 
-enum-known-says : tie.Need-enum-known-says
-enum-known-says c = search needs
+enum-known-meant : tie.Need-enum-known-meant
+enum-known-meant c = search needs
 
 sub-answer-allele : tie.Need-sub-answer-allele
-sub-answer-allele c = rw (c .before .says .given .1) at (c .before .before .before .read-line .ensures .inside)
+sub-answer-allele c = rw (c .before .meant .given .1) at (c .before .before .before .read-line .ensures .inside)
 
 part-answer-allele-start : tie.Need-part-answer-allele-start
-part-answer-allele-start c = rw (c .before .says .given .1) at (c .before .before .before .read-line .ensures .inside)
+part-answer-allele-start c = rw (c .before .meant .given .1) at (c .before .before .before .read-line .ensures .inside)
 
 part-answer-allele-end : tie.Need-part-answer-allele-end
 part-answer-allele-end c = search needs
@@ -39,7 +39,7 @@ returns : tie.Need-returns
 returns c =
     let c₆ = c .before .before .before .before .before .before in
     wrote-as _ _ _ _ _ (allele-line _ _ _ _ _
-    (rw (c₆ .says .given .1) at (c₆ .before .before .read-line .ensures .means)))
+    (rw (c₆ .meant .given .1) at (c₆ .before .before .read-line .ensures .means)))
     (c .before .before .answer-allele .ensures)
 
 same-length-2 : tie.Need-same-length-2
@@ -57,7 +57,7 @@ answer-spec =
     tie.close
     (tie.spec
     read-line-requires
-    enum-known-says
+    enum-known-meant
     sub-answer-allele
     part-answer-allele-start
     part-answer-allele-end

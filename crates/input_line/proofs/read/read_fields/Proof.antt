@@ -2,7 +2,7 @@
 use native.Mathlib.Omega.{arith}
 use mathlib.Core.Path.{_∙_, sym}
 use borrow.Author.Needs.{needs}
-use Rattle.input_line.proofs.Fields.{says-nothing, no-third, crowded-unread, three-fields}
+use Rattle.input_line.proofs.Fields.{reads-nothing, no-third, crowded-unread, three-fields}
 use Rattle.input_line.proofs.read.read_fields.Statement.{statement}
 use Rattle.input_line.proofs.read.read_fields.Tie as tie
 
@@ -11,14 +11,14 @@ add-third c = search needs
 
 returns : tie.Need-returns
 returns c = let s = c .before .before in
-    says-nothing _ (no-third _ (s .args .first) (s .args .second) (s .pre) (c .if1 .taken))
+    reads-nothing _ (no-third _ (s .args .first) (s .args .second) (s .pre) (c .if1 .taken))
 
 next-requires : tie.Need-next-requires
 next-requires c κs = search needs
 
 returns-2 : tie.Need-returns-2
 returns-2 c = let s = c .before .before .before .before in
-    says-nothing _ (crowded-unread _ (s .args .first) (s .args .second) (s .pre)
+    reads-nothing _ (crowded-unread _ (s .args .first) (s .args .second) (s .pre)
     (omega (arith, c .before .next .ensures)))
 
 sub-read-decimal : tie.Need-sub-read-decimal
@@ -42,7 +42,7 @@ enum-told c = search needs
 returns-3 : tie.Need-returns-3
 returns-3 c = let e = c .before .before .before .before in
     let s = e .before .before .before .before in
-    says-nothing _ (three-fields _ (s .args .first) (s .args .second) (s .pre) (e .before .before .if1 .left)
+    reads-nothing _ (three-fields _ (s .args .first) (s .args .second) (s .pre) (e .before .before .if1 .left)
     (e .before .next .result) (e .before .next .ensures) (e .if2 .left)
     ∙ rw (sym (c .before .before .read-decimal .ensures) ∙ c .enum-told .given .1))
 
@@ -72,7 +72,7 @@ returns-4 c =
     let c₅ = c .before .before .before .before .before in
     let c₉ = c₅ .before .before .before .before in
     let c₁₃ = c₉ .before .before .before .before in
-    says-nothing _ (three-fields _ (c₁₃ .args .first) (c₁₃ .args .second) (c₁₃ .pre) (c₉ .before .before .if1 .left)
+    reads-nothing _ (three-fields _ (c₁₃ .args .first) (c₁₃ .args .second) (c₁₃ .pre) (c₉ .before .before .if1 .left)
     (c₉ .before .next .result) (c₉ .before .next .ensures) (c₉ .if2 .left)
     ∙ rw (
       sym (c₅ .before .before .read-decimal .ensures) ∙ c₅ .start .given .1,

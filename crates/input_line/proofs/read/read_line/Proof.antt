@@ -5,7 +5,7 @@ use mathlib.Core.Path.{_∙_, sym}
 use lib.ListN.{length}
 use borrow.Author.Needs.{needs}
 use Rattle.fields.proofs.Cutting.{next-le}
-use Rattle.input_line.proofs.Fields.{says-nothing, one-field, two-fields, fields-cut}
+use Rattle.input_line.proofs.Fields.{reads-nothing, one-field, two-fields, fields-cut}
 use Rattle.input_line.proofs.read.read_line.Statement.{statement}
 use Rattle.input_line.proofs.read.read_line.Tie as tie
 
@@ -13,7 +13,7 @@ next-requires : tie.Need-next-requires
 next-requires c κs = search needs
 
 returns : tie.Need-returns
-returns c = says-nothing _ (one-field _ (sym (c .before .next .ensures) ∙ c .if1 .taken))
+returns c = reads-nothing _ (one-field _ (sym (c .before .next .ensures) ∙ c .if1 .taken))
 
 add-next : tie.Need-add-next
 add-next c = let s = c .before .before .before in
@@ -24,7 +24,7 @@ next-requires-2 c κs = search needs
 
 returns-2 : tie.Need-returns-2
 returns-2 c = let b = c .before .before .before in let l = b .before .before .args .line .now in
-    says-nothing l (two-fields l (b .next .result) (b .next .ensures)
+    reads-nothing l (two-fields l (b .next .result) (b .next .ensures)
     (omega (arith, next-le 0x20 l 0 (omega arith), b .next .ensures))
     (sym (c .before .next2 .ensures) ∙ c .if2 .taken))
 

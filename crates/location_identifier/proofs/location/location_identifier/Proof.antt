@@ -4,7 +4,7 @@ use mathlib.Core.Path.{_≡_, _∙_, sym}
 use lib.ListN.{length}
 use Rattle.digest_text.specs.Digest.{sha512t24u}
 use Rattle.location_identifier.specs.Identifier.{locationIdentifier}
-use Rattle.location_identifier.proofs.Answers.{output-digest, output-room, output-says, output-silent}
+use Rattle.location_identifier.proofs.Answers.{output-digest, output-room, output-writes, output-refused}
 use Rattle.location_identifier.proofs.Lengths.{length-location-identifier}
 use borrow.Author.Needs.{needs}
 use Rattle.location_identifier.proofs.location.location_identifier.Statement.{statement}
@@ -44,13 +44,13 @@ unfolding locationIdentifier sha512t24u
 returns c =
     let h = c .before .before .before .before .before .before in
     let t = h .before in
-    output-says _ _ _ _ _ _ _ _ (λ _. sym (length-location-identifier _ _ _)) _ _
+    output-writes _ _ _ _ _ _ _ _ (λ _. sym (length-location-identifier _ _ _)) _ _
     (sym (t .enum-told .given .1) ∙ t .before .before .check-output .ensures)
     (rw (← h .location-hash .ensures) (c .before .before .place-identifier .ensures))
 
 returns-2 : tie.Need-returns-2
 returns-2 c =
-    output-silent _ _ _ _ _ _ _ _ (λ _. sym (length-location-identifier _ _ _)) _
+    output-refused _ _ _ _ _ _ _ _ (λ _. sym (length-location-identifier _ _ _)) _
     (sym (c .before .why .given .1) ∙ c .before .before .before .check-output .ensures)
 
 pub location-identifier-spec : {M : Type 1} → statement M

@@ -3,7 +3,7 @@ use native.Mathlib.Omega.{arith}
 use mathlib.Core.Path.{_∙_, sym}
 use Rattle.decimals.proofs.Digits.{decimal-within}
 use Rattle.text.specs.Layout.{locationText}
-use Rattle.location_identifier.proofs.Answers.{output-place, output-says, output-silent}
+use Rattle.location_identifier.proofs.Answers.{output-place, output-writes, output-refused}
 use Rattle.location_identifier.proofs.Lengths.{location-long}
 use borrow.Author.Needs.{needs}
 use Rattle.location_identifier.proofs.location.location_text.Statement.{statement}
@@ -56,7 +56,7 @@ returns c =
     let k = t .before .before in
     let d = k .before in
     let long = location-long _ _ _ _ _ (d .before .decimal-length .ensures) (d .decimal-length2 .ensures) in
-    output-says _ _ _ _ _ _ _ _ long _ _ (sym (t .enum-told .given .1) ∙ k .check-output .ensures)
+    output-writes _ _ _ _ _ _ _ _ long _ _ (sym (t .enum-told .given .1) ∙ k .check-output .ensures)
     (c .before .before .place-text .ensures)
 
 returns-2 : tie.Need-returns-2
@@ -64,7 +64,7 @@ returns-2 c =
     let k = c .before .before .before in
     let d = k .before in
     let long = location-long _ _ _ _ _ (d .before .decimal-length .ensures) (d .decimal-length2 .ensures) in
-    output-silent _ _ _ _ _ _ _ _ long _ (sym (c .before .why .given .1) ∙ k .check-output .ensures)
+    output-refused _ _ _ _ _ _ _ _ long _ (sym (c .before .why .given .1) ∙ k .check-output .ensures)
 
 pub location-text-spec : {M : Type 1} → statement M
 location-text-spec =
