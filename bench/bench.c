@@ -41,7 +41,7 @@ static void in_parts_of(size_t length) {
 static void in_long_parts(void) { in_parts_of(1000 * 1000); }
 static void in_short_parts(void) { in_parts_of(1000); }
 static void plain_digest(void) { plain_sha512(twice, BYTES, digest); }
-static void plain_test(void) { hold(plain_letters(twice, BYTES) == BYTES); }
+static void plain_test(void) { hold(plain_residues(twice, BYTES) == BYTES); }
 static void plain_digest_and_test(void) { plain_digest(), plain_test(); }
 
 /*
@@ -111,14 +111,14 @@ static void plain_long_digest(void) { plain_sha512(same, LONG, digest); }
 static void plain_long_roll(void) {
     found = plain_common_suffix(same, same + 1, LONG / 2) + plain_common_prefix(same, same + 1, LONG / 2);
 }
-static void plain_long_test(void) { hold(plain_letters(same, LONG) == LONG); }
+static void plain_long_test(void) { hold(plain_residues(same, LONG) == LONG); }
 static void plain_long_all(void) { plain_long_digest(), plain_long_roll(), plain_long_test(); }
 
 static void sequence_lines(double openssl) {
     row whole[] = {{"`fv_sequence_identifier`", identifier, 0},
                    {"plain C SHA-512", plain_digest, 0},
-                   {"plain C letter test", plain_test, 0},
-                   {"plain C SHA-512 and letter test", plain_digest_and_test, 0}};
+                   {"plain C residue test", plain_test, 0},
+                   {"plain C SHA-512 and residue test", plain_digest_and_test, 0}};
     ours_first("identifier of 64 MB", whole, COUNT(whole));
     row other = {"OpenSSL SHA-512", 0, openssl > 0 ? BYTES / openssl * 1e9 : 0};
     if (openssl > 0) line("identifier of 64 MB", &whole[0], &other);
@@ -136,11 +136,11 @@ static void roll_lines(void) {
     row left[] = {{"`fv_normal_form`, refused under 5", roll_left, 0}, {"plain C common suffix", plain_suffix, 0}};
     ours_first("roll to the left over 64 MB", left, COUNT(left));
     row right_and_test[] = {{"`fv_normal_form`, refused under 6", roll_right_and_test, 0},
-                            {"plain C common prefix and letter test", plain_prefix_and_test, 0}};
-    ours_first("roll to the right over 64 MB, and letters", right_and_test, COUNT(right_and_test));
+                            {"plain C common prefix and residue test", plain_prefix_and_test, 0}};
+    ours_first("roll to the right over 64 MB, and residues", right_and_test, COUNT(right_and_test));
     row left_and_test[] = {{"`fv_normal_form`, refused under 6", roll_left_and_test, 0},
-                           {"plain C common suffix and letter test", plain_suffix_and_test, 0}};
-    ours_first("roll to the left over 64 MB, and letters", left_and_test, COUNT(left_and_test));
+                           {"plain C common suffix and residue test", plain_suffix_and_test, 0}};
+    ours_first("roll to the left over 64 MB, and residues", left_and_test, COUNT(left_and_test));
 }
 
 static void form_lines(void) {
@@ -161,9 +161,9 @@ static void allele_lines(double second) {
     row long_allele[] = {{"`fv_allele_identifier`", long_allele_identifier, 0},
                          {"plain C SHA-512", plain_long_digest, 0},
                          {"plain C roll to both sides", plain_long_roll, 0},
-                         {"plain C letter test", plain_long_test, 0},
-                         {"plain C SHA-512, roll and letter test", plain_long_all, 0}};
-    ours_first("an allele of 10 million letters", long_allele, COUNT(long_allele));
+                         {"plain C residue test", plain_long_test, 0},
+                         {"plain C SHA-512, roll and residue test", plain_long_all, 0}};
+    ours_first("an allele of 10 million residues", long_allele, COUNT(long_allele));
 }
 
 int main(int count, char **words) {

@@ -16,11 +16,11 @@ enum { MOST = 10 * 1000, POOL = 10 * 1000 * 1000, HEADER = 76, RECORD = 20, ENTR
 enum { NEW = 1, AGAIN = 2, KNOWN = 3 };
 enum { ISSUED_AT = 8, JOURNALLED_AT = 20, USED_AT = 32, STATUS = 16 };
 
-/* How many numbers the register has, and the last of them: an insertion of so many letters at this place. */
+/* How many numbers the register has, and the last of them: an insertion of so many residues at this place. */
 static size_t numbers, last_length;
 static uint64_t last_start;
 static uint8_t image[HEADER + (RECORD + ENTRY) * MOST + POOL], reference[MOST + 1];
-static uint8_t last_letters[POOL / MOST];
+static uint8_t last_residues[POOL / MOST];
 static const uint8_t reference_digest[] = "zR7HujP8jYfpROv-hBLZMHuR_5P4Zo0q";
 static volatile uint64_t seen;
 
@@ -44,9 +44,9 @@ static void begin(size_t count) {
 }
 
 /* The last replacement is lent beside the image, not in it. */
-static void keep_last(void) { memcpy(last_letters, pool() + POOL - last_length, last_length); }
+static void keep_last(void) { memcpy(last_residues, pool() + POOL - last_length, last_length); }
 
-/* Insertions at one place after another; the last has 12 letters, and the others have the rest of the pool. */
+/* Insertions at one place after another; the last has 12 residues, and the others have the rest of the pool. */
 static void lay_apart(size_t count) {
     begin(count);
     last_length = 12, last_start = count;
@@ -58,7 +58,7 @@ static void lay_apart(size_t count) {
     keep_last();
 }
 
-/* Insertions at one place, as long as each other and alike but for the last letters: a number in base 3. */
+/* Insertions at one place, as long as each other and alike but for the last residues: a number in base 3. */
 static void lay_alike(size_t count) {
     begin(count);
     last_length = POOL / count, last_start = 1;
@@ -81,15 +81,15 @@ static void reset(size_t issued, size_t used, uint64_t status) {
 
 static void enter(uint64_t answer) {
     fv_entered e = fv_entry(image, image_length(), reference_digest, 32, reference, sizeof reference,
-                            last_start, last_start, last_letters, last_length);
+                            last_start, last_start, last_residues, last_length);
     hold(e.refusal == 0 && e.answer == answer && e.number == numbers);
 }
 
 static void read_image(void) {
     for (int i = 0; i < CALLS; i++) seen = plain_read(image, image_length());
 }
-static void test_letters(void) {
-    for (int i = 0; i < CALLS; i++) hold(plain_letters(pool(), POOL) == POOL);
+static void test_residues(void) {
+    for (int i = 0; i < CALLS; i++) hold(plain_residues(pool(), POOL) == POOL);
 }
 static void test_image(void) {
     for (int i = 0; i < CALLS; i++) {
@@ -115,7 +115,7 @@ static void withdraw_last(void) {
 
 static void calls_on(const char *what) {
     row rows[] = {{"plain C read of the image", read_image, 0},
-                  {"plain C letter test of the pool", test_letters, 0},
+                  {"plain C residue test of the pool", test_residues, 0},
                   {"`fv_seal`, nothing to seal", test_image, 0},
                   {"`fv_entry`, known", enter_known, 0},
                   {"`fv_entry`, again", enter_again, 0},
@@ -129,11 +129,11 @@ static void calls_on(const char *what) {
 void register_lines(void) {
     memset(reference, 'T', sizeof reference);
     lay_apart(10);
-    calls_on("10 numbers, 10 MB of letters");
+    calls_on("10 numbers, 10 MB of residues");
     lay_apart(1000);
-    calls_on("1,000 numbers, 10 MB of letters");
+    calls_on("1,000 numbers, 10 MB of residues");
     lay_apart(10000);
-    calls_on("10,000 numbers, 10 MB of letters");
+    calls_on("10,000 numbers, 10 MB of residues");
     lay_alike(10000);
-    calls_on("10,000 numbers, alike but for their last letters");
+    calls_on("10,000 numbers, alike but for their last residues");
 }

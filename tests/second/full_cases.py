@@ -14,11 +14,11 @@ from register_calls import entry_as
 from text_cases import ALLELE_IDENTIFIER, ALLELE_TEXT, some_digest
 
 LIMIT = model.REFERENCE_LIMIT
-LETTERS_LIMIT = texts.LETTERS_LIMIT
+RESIDUES_LIMIT = texts.RESIDUES_LIMIT
 LONGEST = Repeated(b"A", LIMIT)
 FOREIGN_LAST = Repeated(b"A", LIMIT - 1, tail=b"a")
 # As many letters as may be given, put into the longest reference, are rolled over all of it: the normal form is from
-# 0 to its end, with LETTERS_LIMIT letters.
+# 0 to its end, with RESIDUES_LIMIT letters.
 INSERTION = LONGEST, LIMIT // 2, LIMIT // 2, b"A" * model.REPLACEMENT_LIMIT
 
 
@@ -35,10 +35,10 @@ def allele_text(location_digest, letters):
 
 def read_texts(rng):
     """A text with as many letters as there may be, without its end, and with one letter more."""
-    most, more = (allele_text(some_digest(rng), LETTERS_LIMIT + over) for over in (0, 1))
-    cut = Repeated(b"A", LETTERS_LIMIT, most.head, most.tail[:-1])
-    for text, answer in ((most, (0, 0, 13, 68, LETTERS_LIMIT)), (cut, (8, len(cut), 0, 0, 0)),
-                         (more, (8, len(more.head) + LETTERS_LIMIT, 0, 0, 0))):
+    most, more = (allele_text(some_digest(rng), RESIDUES_LIMIT + over) for over in (0, 1))
+    cut = Repeated(b"A", RESIDUES_LIMIT, most.head, most.tail[:-1])
+    for text, answer in ((most, (0, 0, 13, 68, RESIDUES_LIMIT)), (cut, (8, len(cut), 0, 0, 0)),
+                         (more, (8, len(more.head) + RESIDUES_LIMIT, 0, 0, 0))):
         yield Case("fv_read_allele", b"r", (), (text,), answer, ())
 
 
@@ -61,14 +61,14 @@ def in_parts(rng):
 def normal_forms():
     """Without room for the normal replacement."""
     reference, start, end, replacement = INSERTION
-    answer = 6, LETTERS_LIMIT, 0, 0, 0, 0
+    answer = 6, RESIDUES_LIMIT, 0, 0, 0, 0
     yield Case("fv_normal_form", b"n", (start, end, 0), (reference, replacement, b""), answer, (b"",))
 
 
 def alleles_said(rng):
     """The text without room for it, and its identifier."""
     digest = some_digest(rng)
-    text = allele_text(model.digest(texts.location(0, LIMIT, digest)), LETTERS_LIMIT)
+    text = allele_text(model.digest(texts.location(0, LIMIT, digest)), RESIDUES_LIMIT)
     yield ALLELE_TEXT.expecting((*INSERTION, digest, b"", 0), (6, len(text), 0), b"")
     out = rng.randbytes(43)
     after = model.written(out, 1, b"ga4gh:VA." + model.digest(*text.pieces()))
@@ -78,7 +78,7 @@ def alleles_said(rng):
 def entries(rng):
     """Into a pool without room for it."""
     digest = some_digest(rng)
-    form = model.Form(model.INDEL, 0, LIMIT, Repeated(b"A", LETTERS_LIMIT))
+    form = model.Form(model.INDEL, 0, LIMIT, Repeated(b"A", RESIDUES_LIMIT))
     yield entry_as(image_of(rng, Register(1, 1, 100, LIMIT, digest)), digest, *INSERTION, form)
 
 

@@ -9,13 +9,13 @@ import model
 
 LOCATION = b'{"interval":{"end":%s,"start":%s,"type":"SimpleInterval"},"sequence_id":"%s","type":"SequenceLocation"}'
 ALLELE = b'{"location":"%s","state":{"sequence":"%s","type":"SequenceState"},"type":"Allele"}'
-LETTERS_LIMIT = 1_001_000_000
+RESIDUES_LIMIT = 1_001_000_000
 
 DECIMAL = rb"(0|[1-9][0-9]{0,9})"
 DIGEST = rb"([A-Za-z0-9_-]{32})"
-LETTERS = rb"([A-Z]*)"
+RESIDUES = rb"([A-Z]*)"
 LOCATIONS = re.compile(re.escape(LOCATION) % (DECIMAL, DECIMAL, DIGEST))
-ALLELES = re.compile(re.escape(ALLELE) % (DIGEST, LETTERS))
+ALLELES = re.compile(re.escape(ALLELE) % (DIGEST, RESIDUES))
 
 
 def location(start, end, digest):
@@ -103,7 +103,7 @@ def accepted_location(text):
 def accepted_allele(text):
     """The offsets of the location's digest and of the replacement, and the replacement's length, or None."""
     found = ALLELES.fullmatch(text)
-    if not found or len(found[2]) > LETTERS_LIMIT:
+    if not found or len(found[2]) > RESIDUES_LIMIT:
         return None
     return found.start(1), found.start(2), len(found[2])
 
@@ -121,7 +121,7 @@ def completed(accepted, specimen, fixed, more, prefix):
 # at all, one of its ends does it: a number or the letters may end where they stand, and a digest may go
 # on with any character.
 SOME_LOCATION, SOME_ALLELE = location(0, 0, b"A" * 32), allele(b"A" * 32, b"")
-BEFORE_END, BEFORE_LETTERS = SOME_LOCATION.index(b"0"), SOME_ALLELE.index(b'","type":"SequenceState"')
+BEFORE_END, BEFORE_RESIDUES = SOME_LOCATION.index(b"0"), SOME_ALLELE.index(b'","type":"SequenceState"')
 MORE_DIGITS = 2 * (len(b"1000000000") - 1)
 
 
@@ -132,7 +132,7 @@ def begins_location(prefix):
 
 @lru_cache(4096)
 def begins_allele(prefix):
-    return completed(accepted_allele, SOME_ALLELE, BEFORE_LETTERS, LETTERS_LIMIT, prefix)
+    return completed(accepted_allele, SOME_ALLELE, BEFORE_RESIDUES, RESIDUES_LIMIT, prefix)
 
 
 def longest(begins, text):
