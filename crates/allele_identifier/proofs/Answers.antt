@@ -14,8 +14,7 @@ use Rattle.refusal.specs.Verdict.{accepted, refused, verdict}
 use Rattle.refusal.specs.Writes.{Writes}
 use Rattle.refusal.proofs.WritesUnless.{writes-unless-then, writes-unless-short, writes-unless-room}
 use Rattle.refusal.proofs.Writes.{writes-all}
-use Rattle.refusal.proofs.Verdict.{verdict-first, verdict-then, verdict-fewer, verdict-later, outcome-accepted}
-use Rattle.refusal.proofs.Verdict.{outcome-refused}
+use Rattle.refusal.proofs.Verdict.{verdict-first, verdict-then, verdict-fewer, verdict-later, outcome-accepted, outcome-refused}
 use Rattle.alphabets.specs.Alphabets.{digestTextGrounds, digestTextAnswer, foreignNormal, digestLength}
 use Rattle.alphabets.proofs.DigestText.{digest-long}
 use Rattle.normal_form.specs.declared.Stretches.{Stretches}
@@ -27,7 +26,8 @@ use Rattle.normal_form_calls.specs.declared.Located.the-variants.{Accepted as F
 use Rattle.normal_form_calls.specs.Calls.{givenGrounds, located, cleanly}
 use Rattle.normal_form_calls.proofs.Answers.{tell-accepted, tell-refused, given-allele, located-form}
 use Rattle.allele_identifier.specs.Identifier.{textOf, identifierOf, aroundSequence, alleleIdentifierLength}
-use Rattle.allele_identifier.specs.Calls.{alleleGrounds, alleleAnswer, restAnswer, WritesAllele, IdentifiesAllele}
+use Rattle.allele_identifier.specs.Calls.{alleleGrounds, WritesAllele, IdentifiesAllele}
+use Rattle.allele_identifier.specs.Inner.{alleleAnswer, restAnswer}
 use Rattle.allele_identifier.proofs.Hashing.{allele-long, length-allele-identifier}
 
 -- 5 after 7

@@ -2,15 +2,11 @@
 -- written.
 use Prim.Native.Nat.{ℕ}
 use mathlib.Core.List.{List, [], _∷_, _++_}
-use Rattle.refusal.specs.Verdict.{Ground, verdict, tell}
+use Rattle.refusal.specs.Verdict.{Ground}
 use Rattle.refusal.specs.Writes.{WritesUnless}
 use Rattle.refusal.specs.declared.Written.{Written}
 use Rattle.alphabets.specs.Alphabets.{foreignNormal, digestTextGrounds}
-use Rattle.normal_form.specs.declared.Stretches.{Stretches}
 use Rattle.normal_form.specs.Form.{normal}
-use Rattle.normal_form.specs.Stretches.{joined, stretchesOf}
-use Rattle.normal_form_calls.specs.declared.Located.{Located}
-use Rattle.normal_form_calls.specs.declared.Located.the-variants.{Accepted as Found, Refused as Unfound}
 use Rattle.normal_form_calls.specs.Calls.{givenGrounds}
 use Rattle.allele_identifier.specs.Identifier.{textOf, identifierOf}
 
@@ -27,13 +23,3 @@ WritesAllele r start end x digest =
 abbrev pub IdentifiesAllele : List ℕ → ℕ → ℕ → List ℕ → List ℕ → List ℕ → ℕ → Written → List ℕ → Type 0
 IdentifiesAllele r start end x digest =
     WritesUnless (alleleGrounds r start end x digest) (identifierOf (normal r start end x) digest)
-
--- what the tests before the room answer
-unfoldable pub alleleAnswer : List ℕ → ℕ → ℕ → List ℕ → List ℕ → Located
-alleleAnswer r start end x digest =
-    tell Unfound (verdict (alleleGrounds r start end x digest)) (Found (stretchesOf r start end x))
-
--- 7 and 5 alone, of stretches that are found
-unfoldable pub restAnswer : List ℕ → List ℕ → List ℕ → Stretches → Located
-restAnswer r x digest w =
-    tell Unfound (verdict (digestTextGrounds digest ++ (foreignNormal (joined r x w) ∷ []))) (Found w)

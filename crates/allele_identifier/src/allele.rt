@@ -26,7 +26,8 @@ ghost use Rattle.stretch.specs.Over.{over};
 ghost use Rattle.alphabets.specs.Alphabets.{digestLength};
 ghost use Rattle.normal_form.specs.Stretches.{Fits, joinedLength, formIn};
 ghost use Rattle.allele_identifier.specs.Identifier.{aroundSequence, textOf};
-ghost use Rattle.allele_identifier.specs.Calls.{alleleAnswer, restAnswer, WritesAllele, IdentifiesAllele};
+ghost use Rattle.allele_identifier.specs.Calls.{WritesAllele, IdentifiesAllele};
+ghost use Rattle.allele_identifier.specs.Inner.{alleleAnswer, restAnswer};
 
 const ALLELE_PREFIX: [u8; 9] = *b"ga4gh:VA.";
 

@@ -14,13 +14,13 @@ use Rattle.refusal.specs.declared.Written.the-variants.{Refused as WrittenRefus
 use Rattle.refusal.specs.Grounds.{outputTooShort}
 use Rattle.refusal.specs.Verdict.{Ground, Verdict, accepted, refused, verdict, tell}
 use Rattle.refusal.specs.Writes.{Writes, WritesUnless}
-use Rattle.refusal.proofs.Verdict.{none-holds, verdict-first, verdict-then, verdict-fewer, verdict-later}
-use Rattle.refusal.proofs.Verdict.{outcome-accepted, outcome-refused}
+use Rattle.refusal.proofs.Verdict.{none-holds, verdict-first, verdict-then, verdict-fewer, verdict-later, outcome-accepted, outcome-refused}
 use Rattle.refusal.proofs.Writes.{writes-nothing, writes-as}
 use Rattle.alphabets.specs.Alphabets.{digestLength, digestTextGrounds}
 use Rattle.alphabets.proofs.DigestText.{digest-long, digest-all}
 use Rattle.words.specs.Vocabulary.{Digest}
-use Rattle.location_identifier.specs.Calls.{intervalGrounds, locationGrounds, locationAnswer, outputAnswer}
+use Rattle.location_identifier.specs.Calls.{intervalGrounds, locationGrounds}
+use Rattle.location_identifier.specs.Inner.{locationAnswer, outputAnswer}
 
 pub digest-given : (d : List ℕ) → verdict (digestTextGrounds d) ≡ accepted → Digest d
 digest-given d v = record { long = digest-long d v; characters = digest-all d v }

@@ -2,11 +2,9 @@
 -- written.
 use Prim.Native.Nat.{ℕ}
 use mathlib.Core.List.{List, [], _∷_, _++_}
-use Rattle.refusal.specs.Grounds.{referenceOverLimit, startAboveEnd, endAboveReference, outputTooShort}
-use Rattle.refusal.specs.Verdict.{Ground, verdict, tell}
+use Rattle.refusal.specs.Grounds.{referenceOverLimit, startAboveEnd, endAboveReference}
+use Rattle.refusal.specs.Verdict.{Ground}
 use Rattle.refusal.specs.Writes.{WritesUnless}
-use Rattle.refusal.specs.declared.Outcome.{Outcome}
-use Rattle.refusal.specs.declared.Outcome.the-variants.{Accepted, Refused}
 use Rattle.refusal.specs.declared.Written.{Written}
 use Rattle.alphabets.specs.Alphabets.{digestTextGrounds}
 use Rattle.text.specs.Layout.{locationText}
@@ -27,12 +25,3 @@ WritesLocation n start end digest = WritesUnless (locationGrounds n start end di
 abbrev pub IdentifiesLocation : ℕ → ℕ → ℕ → List ℕ → List ℕ → ℕ → Written → List ℕ → Type 0
 IdentifiesLocation n start end digest =
     WritesUnless (locationGrounds n start end digest) (locationIdentifier start end digest)
-
--- what the tests before the room answer
-unfoldable pub locationAnswer : ℕ → ℕ → ℕ → List ℕ → Outcome
-locationAnswer n start end digest = tell Refused (verdict (locationGrounds n start end digest)) Accepted
-
--- and with it, for so many bytes
-unfoldable pub outputAnswer : ℕ → ℕ → ℕ → List ℕ → ℕ → ℕ → ℕ → Outcome
-outputAnswer n start end digest room place needed =
-    tell Refused (verdict (locationGrounds n start end digest ++ (outputTooShort room place needed ∷ []))) Accepted

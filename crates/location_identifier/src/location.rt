@@ -21,8 +21,8 @@ ghost use lib.ListN.{length};
 ghost use Rattle.refusal.specs.Verdict.{accepted};
 ghost use Rattle.refusal.specs.Writes.{Writes};
 ghost use Rattle.text.specs.Layout.{locationText};
-ghost use Rattle.location_identifier.specs.Calls.{locationAnswer, outputAnswer, WritesLocation};
-ghost use Rattle.location_identifier.specs.Calls.{IdentifiesLocation};
+ghost use Rattle.location_identifier.specs.Calls.{WritesLocation, IdentifiesLocation};
+ghost use Rattle.location_identifier.specs.Inner.{locationAnswer, outputAnswer};
 
 const LOCATION_PREFIX: [u8; 10] = *b"ga4gh:VSL.";
 

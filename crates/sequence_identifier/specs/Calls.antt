@@ -7,7 +7,6 @@ use lib.ListN.{length}
 use Rattle.refusal.specs.Verdict.{Ground, verdict, tell, leave}
 use Rattle.refusal.specs.Grounds.{referenceOverLimit, outputTooShort}
 use Rattle.refusal.specs.Writes.{Writes}
-use Rattle.refusal.specs.declared.Outcome.{Outcome}
 use Rattle.refusal.specs.declared.Outcome.the-variants.{Accepted, Refused}
 use Rattle.refusal.specs.declared.Written.{Written}
 use Rattle.alphabets.specs.Alphabets.{foreignGiven}
@@ -44,17 +43,6 @@ abbrev pub Finishes : Running → List ℕ → ℕ → Written → List ℕ → 
 Finishes state out place =
     Writes (verdict (finishGrounds (state .total) (length out) place)) (sequencePrefix ++ digestText (finished state))
     out place
-
--- what the tests of each answer
-unfoldable pub wholeAnswer : List ℕ → ℕ → ℕ → Outcome
-wholeAnswer reference room place = tell Refused (verdict (wholeGrounds reference room place)) Accepted
-
-unfoldable pub finishAnswer : ℕ → ℕ → ℕ → Outcome
-finishAnswer total room place = tell Refused (verdict (finishGrounds total room place)) Accepted
-
--- a refused part leaves the state as it was
-abbrev pub unfed : Running → ℕ → ℕ → Fed
-unfed state number value = record { state = state; outcome = Refused (record { number = number; value = value }) }
 
 -- the state goes on with the part, or stays
 abbrev pub feeding : Running → List ℕ → Fed

@@ -11,7 +11,8 @@ use refusal::Written;
 use refusal::refuse;
 use refusal::sum_exceeds;
 ghost use mathlib.Core.Path.{_≡_};
-ghost use Rattle.sequence_identifier.specs.Calls.{wholeAnswer, Identifies};
+ghost use Rattle.sequence_identifier.specs.Calls.{Identifies};
+ghost use Rattle.sequence_identifier.specs.Inner.{wholeAnswer};
 
 pub const SEQUENCE_PREFIX: [u8; 9] = *b"ga4gh:SQ.";
 

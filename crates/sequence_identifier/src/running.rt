@@ -16,7 +16,8 @@ use refusal::sum_exceeds;
 use sha512::Running;
 ghost use mathlib.Core.Path.{_≡_};
 ghost use Rattle.sha512.specs.Feeding.{begun};
-ghost use Rattle.sequence_identifier.specs.Calls.{finishAnswer, Finishes, feeding, unfed};
+ghost use Rattle.sequence_identifier.specs.Calls.{Finishes, feeding};
+ghost use Rattle.sequence_identifier.specs.Inner.{finishAnswer, unfed};
 
 // A running digest of nothing yet.
 pub fn begin() -> Running

@@ -1,7 +1,8 @@
 -- Each return is what the grounds say, by the tests that led there.
 use borrow.Author.Tests.{lt-ltb, le-ltb}
 use borrow.Author.Needs.{needs}
-use Rattle.location_identifier.specs.Calls.{locationGrounds, locationAnswer}
+use Rattle.location_identifier.specs.Calls.{locationGrounds}
+use Rattle.location_identifier.specs.Inner.{locationAnswer}
 use Rattle.location_identifier.proofs.location.check_location.Statement.{statement}
 use Rattle.location_identifier.proofs.location.check_location.Tie as tie
 

@@ -2,7 +2,7 @@
 use mathlib.Core.Path.{_∙_, sym}
 use borrow.Author.Tests.{lt-ltb, le-ltb}
 use borrow.Author.Needs.{needs}
-use Rattle.sequence_identifier.specs.Calls.{wholeAnswer}
+use Rattle.sequence_identifier.specs.Inner.{wholeAnswer}
 use Rattle.sequence_identifier.proofs.identifier.check_whole.Statement.{statement}
 use Rattle.sequence_identifier.proofs.identifier.check_whole.Tie as tie
 

@@ -5,7 +5,8 @@ use lib.ListN.{length}
 use borrow.Author.Needs.{needs}
 use Rattle.digest_text.specs.Digest.{sha512t24u}
 use Rattle.sequence_identifier.specs.Identifier.{sequenceIdentifier}
-use Rattle.sequence_identifier.specs.Calls.{referenceGrounds, wholeAnswer}
+use Rattle.sequence_identifier.specs.Calls.{referenceGrounds}
+use Rattle.sequence_identifier.specs.Inner.{wholeAnswer}
 use Rattle.sequence_identifier.proofs.Tested.{tested-room, tested-writes, tested-silent}
 use Rattle.sequence_identifier.proofs.identifier.sequence_identifier.Statement.{statement}
 use Rattle.sequence_identifier.proofs.identifier.sequence_identifier.Tie as tie

@@ -2,7 +2,7 @@
 use mathlib.Core.Path.{_∙_, sym}
 use borrow.Author.Tests.{lt-ltb, le-ltb}
 use borrow.Author.Needs.{needs}
-use Rattle.sequence_identifier.specs.Calls.{finishAnswer}
+use Rattle.sequence_identifier.specs.Inner.{finishAnswer}
 use Rattle.sequence_identifier.proofs.running.check_finish.Statement.{statement}
 use Rattle.sequence_identifier.proofs.running.check_finish.Tie as tie
 

@@ -5,7 +5,7 @@ use mathlib.Core.List.{[], _∷_}
 use lib.ListN.{length}
 use borrow.Author.Needs.{needs}
 use Rattle.refusal.specs.Grounds.{referenceOverLimit}
-use Rattle.sequence_identifier.specs.Calls.{finishAnswer}
+use Rattle.sequence_identifier.specs.Inner.{finishAnswer}
 use Rattle.sequence_identifier.proofs.Tested.{tested-room, tested-writes, tested-silent}
 use Rattle.sequence_identifier.proofs.running.finish.Statement.{statement}
 use Rattle.sequence_identifier.proofs.running.finish.Tie as tie
