@@ -15,6 +15,7 @@ from textwrap import fill
 from typing import NamedTuple
 
 WIDTH = 112
+LINK = re.compile(r"\[([^]]*)\]\[\w+\]")
 HEAD = """# Wrong versions
 
 Versions of the code, or of what it promises, that the prover has to refuse: crates/NAME/must-fail/LABEL.edit, written
@@ -75,7 +76,7 @@ def rows(document, *headings):
     """The cells of the rows of a document's tables whose first column has such a heading."""
     heading = ""
     for line in Path(document).read_text("utf-8").splitlines():
-        cells = [cell.strip().replace("`", "") for cell in line.strip("|").split(" | ")]
+        cells = [LINK.sub(r"\1", cell.strip().replace("`", "")) for cell in line.strip("|").split(" | ")]
         if not line.startswith("|"):
             heading = ""
         elif not heading:
