@@ -1,4 +1,4 @@
--- What `identify::allele_identifier` answers, flattened.
+-- What `allele_identifier::allele_identifier` answers, flattened.
 use borrow.Author.Needs.{needs}
 use Rattle.fearnavult.proofs.fv_allele_identifier.Statement.{statement}
 use Rattle.fearnavult.proofs.fv_allele_identifier.Tie as tie

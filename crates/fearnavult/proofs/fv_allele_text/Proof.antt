@@ -1,4 +1,4 @@
--- What `identify::allele_text` answers, flattened.
+-- What `allele_identifier::allele_text` answers, flattened.
 use borrow.Author.Needs.{needs}
 use Rattle.fearnavult.proofs.fv_allele_text.Statement.{statement}
 use Rattle.fearnavult.proofs.fv_allele_text.Tie as tie

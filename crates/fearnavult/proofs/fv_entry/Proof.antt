@@ -1,4 +1,4 @@
--- What `entering::entry` answers, flattened.
+-- What `entry::entry` answers, flattened.
 use borrow.Author.Needs.{needs}
 use Rattle.fearnavult.proofs.fv_entry.Statement.{statement}
 use Rattle.fearnavult.proofs.fv_entry.Tie as tie

@@ -1,4 +1,4 @@
--- What `locations::location_identifier` answers, flattened.
+-- What `location_identifier::location_identifier` answers, flattened.
 use borrow.Author.Needs.{needs}
 use Rattle.fearnavult.proofs.fv_location_identifier.Statement.{statement}
 use Rattle.fearnavult.proofs.fv_location_identifier.Tie as tie

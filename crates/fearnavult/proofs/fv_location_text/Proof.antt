@@ -1,4 +1,4 @@
--- What `locations::location_text` answers, flattened.
+-- What `location_identifier::location_text` answers, flattened.
 use borrow.Author.Needs.{needs}
 use Rattle.fearnavult.proofs.fv_location_text.Statement.{statement}
 use Rattle.fearnavult.proofs.fv_location_text.Tie as tie

@@ -1,4 +1,4 @@
--- What `forming::normal_form` answers, flattened.
+-- What `normal_form_calls::normal_form` answers, flattened.
 use borrow.Author.Needs.{needs}
 use Rattle.fearnavult.proofs.fv_normal_form.Statement.{statement}
 use Rattle.fearnavult.proofs.fv_normal_form.Tie as tie

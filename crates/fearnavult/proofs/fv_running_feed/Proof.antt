@@ -1,5 +1,5 @@
 -- `fearnavult::fv_running_feed` meets its contract: a walk of its MIR, by hand. The lent state is passed on to
--- `running::feed` for good, and its answer to `flat::flat_outcome`.
+-- `running_digest::feed` for good, and its answer to `c_answers::flat_outcome`.
 -- Of the two the walk knows only that they meet their contracts.
 use mathlib.Core.Path.{_≡_, refl}
 use Prim.Native.Nat.{ℕ}

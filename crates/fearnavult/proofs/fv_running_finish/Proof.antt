@@ -1,5 +1,5 @@
 -- `fearnavult::fv_running_finish` meets its contract: a walk of its MIR, by hand. All that was lent goes on to
--- `running::finish` for good, and its answer to `flat_written`.
+-- `running_digest::finish` for good, and its answer to `flat_written`.
 -- Of the two the walk knows only that each meets its contract.
 use mathlib.Core.Path.{_≡_, refl}
 use Prim.Native.Nat.{ℕ, _<_, _^_}
@@ -159,7 +159,7 @@ module _ {M : Type 1} (𝓤 : URA M) (H : Heap 𝓤) (A : Atoms 𝓤) (W : Given
         use1 W (later (some (λ (w : Written). (Tokens ⊛ ‵ (S.the-row .own w (u ∷ []))) ⊛ raw
         (ensured 𝓤 H A finish.ended (finish.clauses 𝓤 H A mem run) (κ, (κ′, tt)) a tt w)))) (id⊢ 𝓤 _) $ await ! tt
         $ pick ! (λ w.
-        -- what `running::finish` ensures, at some last list
+        -- what `running_digest::finish` ensures, at some last list
         split ! $ move ! (1 ∷ []) $ use1 W
         (some (λ (zs : Unit {0} × (List ℕ × (Unit {0} × Unit {0}))). ‵ (lasts finish.ended (κ, (κ′, tt)) a zs) ⊛
         raw (fact 𝓤 (Finishes (state .now) (out .now) n w (zs .1 .0))))) (id⊢ 𝓤 _) $ pick ! (λ zs.

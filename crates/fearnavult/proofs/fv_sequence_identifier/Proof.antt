@@ -1,4 +1,4 @@
--- What `digest::sequence_identifier` answers, flattened.
+-- What `sequence_identifier::sequence_identifier` answers, flattened.
 use borrow.Author.Needs.{needs}
 use Rattle.fearnavult.proofs.fv_sequence_identifier.Statement.{statement}
 use Rattle.fearnavult.proofs.fv_sequence_identifier.Tie as tie

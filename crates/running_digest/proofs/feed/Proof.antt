@@ -1,6 +1,6 @@
--- `running::feed` meets its contract: a walk of its MIR, by hand. The borrow of the state is opened for the state's
--- value, which goes to `digest::feed`, and closed at the state that comes back.
--- Of the state's machine value the walk knows only that it has the struct's type, and of `digest::feed` that it meets
+-- `running_digest::feed` meets its contract: a walk of its MIR, by hand. The borrow of the state is opened for the state's
+-- value, which goes to `sequence_identifier::feed`, and closed at the state that comes back.
+-- Of the state's machine value the walk knows only that it has the struct's type, and of `sequence_identifier::feed` that it meets
 -- its contract.
 use mathlib.Core.Path.{_≡_, refl, ap}
 use Prim.Native.Nat.{ℕ}
@@ -115,7 +115,7 @@ module _ {M : Type 1} (𝓤 : URA M) (H : Heap 𝓤) (A : Atoms 𝓤) (W : Given
   abbrev Rest : Fml
   Rest = owns (ShrSlice (named 1) κ′ u8 ∷ []) (part, tt) (s ∷ [], tt)
 
-  -- what `digest::feed`'s triple binds outside: the part's own lifetime, share and value
+  -- what `sequence_identifier::feed`'s triple binds outside: the part's own lifetime, share and value
   abbrev to : ByValue 𝓤 H A mem run .Ghost
   to = (((κ′, tt), (q′, tt), tt, (h, (part, tt)), (mach h ∷ [], (s ∷ [], tt))), tt)
 

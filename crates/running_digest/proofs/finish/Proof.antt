@@ -1,6 +1,6 @@
--- `running::finish` meets its contract: a walk of its MIR, by hand. The borrow of the state is looked into for the
--- state's value, which goes to `digest::finish`, and shut again. The buffer is passed on for good.
--- Of the state's machine value the walk knows only that it has the struct's type, and of `digest::finish` that it meets
+-- `running_digest::finish` meets its contract: a walk of its MIR, by hand. The borrow of the state is looked into for the
+-- state's value, which goes to `sequence_identifier::finish`, and shut again. The buffer is passed on for good.
+-- Of the state's machine value the walk knows only that it has the struct's type, and of `sequence_identifier::finish` that it meets
 -- its contract.
 use mathlib.Core.Path.{_≡_, refl}
 use Prim.Native.Nat.{ℕ, _<_, _^_}
@@ -107,7 +107,7 @@ module _ {M : Type 1} (𝓤 : URA M) (H : Heap 𝓤) (A : Atoms 𝓤) (W : Given
   abbrev Rest : Fml
   Rest = owns (MutSlice (named 1) κ′ u8 ∷ u64 ∷ []) (out, (n, tt)) (s ∷ [], (vint w64 n ∷ [], tt))
 
-  -- what `digest::finish`'s triple binds outside: the buffer's own lifetime, share and value
+  -- what `sequence_identifier::finish`'s triple binds outside: the buffer's own lifetime, share and value
   abbrev to : ByValue 𝓤 H A mem run .Ghost
   to = (((κ′, tt), (q′, tt), tt, (h, (out, (n, tt))), (mach ∷ [], (s ∷ [], (vint w64 n ∷ [], tt)))), tt)
 
@@ -172,7 +172,7 @@ module _ {M : Type 1} (𝓤 : URA M) (H : Heap 𝓤) (A : Atoms 𝓤) (W : Given
         use1 W (later (some (λ (r : Written). ((‵ (flft κ′ q′) ⊛ ‵ ftrue) ⊛ ‵ (S.the-row .own r (v ∷ []))) ⊛ raw
         (ensured 𝓤 H A callee.ended (callee.clauses 𝓤 H A mem run) (κ′, tt) (h, (out, (n, tt))) tt r)))) (id⊢ 𝓤 _)
         $ await ! tt $ pick ! (λ r.
-        -- what `digest::finish` ensures, at some last list
+        -- what `sequence_identifier::finish` ensures, at some last list
         split ! $ move ! (1 ∷ []) $ use1 W
         (some (λ (zs : Unit {0} × (List ℕ × (Unit {0} × Unit {0}))). ‵
         (lasts callee.ended (κ′, tt) (h, (out, (n, tt))) zs) ⊛ raw (fact 𝓤 (Finishes h ys n r (zs .1 .0)))))
