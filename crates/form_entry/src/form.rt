@@ -16,6 +16,7 @@ use normal_form_calls::Form;
 use refusal::NO_FREE_RECORD;
 use refusal::NO_JOURNAL_ROOM;
 use refusal::NO_POOL_ROOM;
+use refusal::Outcome;
 use refusal::refuse;
 use refusal::sum_exceeds;
 ghost use mathlib.Core.Path.{_≡_};
@@ -34,8 +35,37 @@ ghost use Rattle.changes.specs.Grounds.{noJournalRoom};
 ghost use Rattle.form_entry.specs.declared.Entered.the-variants.{Again, Refused};
 ghost use Rattle.form_entry.specs.Found.{_under_, new};
 ghost use Rattle.form_entry.specs.Calls.{EntersAs, EntersForm};
+ghost use Rattle.form_entry.specs.Inner.{againAnswer, newAnswer};
 
-// 15, and a number that is active again.
+// The test 15.
+fn check_again(image: &[u8]) -> Outcome
+    requires { ⌜ Header (now image) ⌝ }
+    ensures { λ r. ⌜ r ≡ againAnswer (now (image .entry)) ⌝ }
+{
+    let capacity = read_number(image, JOURNAL_CAPACITY_AT);
+    if capacity <= read_number(image, JOURNAL_COUNT_AT) {
+        return Outcome::Refused(refuse(NO_JOURNAL_ROOM, capacity as u64));
+    }
+    Outcome::Accepted
+}
+
+// The tests 13, 14, 15.
+fn check_new(image: &[u8], residues: u64) -> Outcome
+    requires { ⌜ Header (now image) ⌝ }
+    ensures { λ r. ⌜ r ≡ newAnswer (now (image .entry)) residues ⌝ }
+{
+    let records = read_number(image, RECORD_CAPACITY_AT);
+    if records <= read_number(image, ISSUED_AT) {
+        return Outcome::Refused(refuse(NO_FREE_RECORD, records as u64));
+    }
+    let pool = read_number(image, POOL_CAPACITY_AT) as u64;
+    if sum_exceeds(read_number(image, POOL_USED_AT) as u64, residues, pool) {
+        return Outcome::Refused(refuse(NO_POOL_ROOM, pool));
+    }
+    check_again(image)
+}
+
+// Makes a number active again.
 fn reenter(image: &mut [u8], number: usize) -> Entered
     requires { ⌜ Header (now image) ⌝ }
     requires { ⌜ (1 ≤ number) × (number ≤ issued (now image)) ⌝ }
@@ -43,15 +73,16 @@ fn reenter(image: &mut [u8], number: usize) -> Entered
         Keeps Refused (verdict (noJournalRoom (now (image .entry)) ∷ [])) (Again number) (now (image .entry))
         (reentered (now (image .entry)) number) r (now (image .exit)) ⌝ }
 {
-    let capacity = read_number(image, JOURNAL_CAPACITY_AT);
-    if capacity <= read_number(image, JOURNAL_COUNT_AT) {
-        return Entered::Refused(refuse(NO_JOURNAL_ROOM, capacity as u64));
+    match check_again(image) {
+        Outcome::Accepted => {
+            change(image, number, ACTIVE);
+            Entered::Again(number as u64)
+        }
+        Outcome::Refused(why) => Entered::Refused(why),
     }
-    change(image, number, ACTIVE);
-    Entered::Again(number as u64)
 }
 
-// 13, 14, 15, and a form with the next number.
+// Gives a form the next number.
 fn enter_new(image: &mut [u8], form: Form, a: &[u8], b: &[u8], c: &[u8]) -> Entered
     requires { ⌜ Header (now image) ⌝ }
     requires { ⌜ form .length ≡ length (now a) + (length (now b) + length (now c)) ⌝ }
@@ -59,21 +90,14 @@ fn enter_new(image: &mut [u8], form: Form, a: &[u8], b: &[u8], c: &[u8]) -> Ente
         EntersAs (now (image .entry)) (asked form (now (a .entry)) (now (b .entry)) (now (c .entry)))
         (new under (issued (now (image .entry)) + 1)) r (now (image .exit)) ⌝ }
 {
-    let issued = read_number(image, ISSUED_AT);
-    let records = read_number(image, RECORD_CAPACITY_AT);
-    if records <= issued {
-        return Entered::Refused(refuse(NO_FREE_RECORD, records as u64));
+    match check_new(image, form.length) {
+        Outcome::Accepted => {
+            let issued = read_number(image, ISSUED_AT);
+            number_form(image, form, a, b, c);
+            Entered::New(issued as u64 + 1)
+        }
+        Outcome::Refused(why) => Entered::Refused(why),
     }
-    let pool = read_number(image, POOL_CAPACITY_AT) as u64;
-    if sum_exceeds(read_number(image, POOL_USED_AT) as u64, form.length, pool) {
-        return Entered::Refused(refuse(NO_POOL_ROOM, pool));
-    }
-    let journal = read_number(image, JOURNAL_CAPACITY_AT);
-    if journal <= read_number(image, JOURNAL_COUNT_AT) {
-        return Entered::Refused(refuse(NO_JOURNAL_ROOM, journal as u64));
-    }
-    number_form(image, form, a, b, c);
-    Entered::New(issued as u64 + 1)
 }
 
 // "Known", else "again", else "new".

@@ -1,0 +1,24 @@
+-- What the tests before a form's entry tell of the image.
+use Prim.Native.Nat.{ℕ, _+_, _<_, _≤_}
+use mathlib.Core.Path.{_≡_}
+use mathlib.Core.List.{List, [], _∷_}
+use borrow.Author.Tests.{leb-false, ltb-false}
+use Rattle.refusal.specs.Verdict.{verdict}
+use Rattle.refusal.specs.declared.Outcome.the-variants.{Accepted}
+use Rattle.refusal.proofs.Verdict.{none-holds, outcome-accepted}
+use Rattle.image.specs.Fields.{recordCapacity, issued, journalCapacity, journalCount, poolCapacity, poolUsed}
+use Rattle.changes.specs.Grounds.{noFreeRecord, noPoolRoom, noJournalRoom}
+use Rattle.form_entry.specs.Inner.{againAnswer, newAnswer}
+
+module _ (b : List ℕ) where
+  pub again-room : Accepted ≡ againAnswer b → journalCount b < journalCapacity b
+  again-room e =
+      let grounds = noJournalRoom b ∷ [] in
+      leb-false _ _ (none-holds grounds (outcome-accepted (verdict grounds) e) 0)
+
+  pub new-room : (residues : ℕ) → Accepted ≡ newAnswer b residues
+      → (issued b < recordCapacity b) × (poolUsed b + residues ≤ poolCapacity b) × (journalCount b < journalCapacity b)
+  new-room residues e =
+      let grounds = noFreeRecord b ∷ noPoolRoom b residues ∷ noJournalRoom b ∷ [] in
+      let none = none-holds grounds (outcome-accepted (verdict grounds) e) in
+      (leb-false _ _ (none 0), ltb-false _ _ (none 1), leb-false _ _ (none 2))
