@@ -7,7 +7,8 @@ use Rattle.refusal.specs.Verdict.{verdict}
 use Rattle.refusal.specs.declared.Outcome.the-variants.{Accepted}
 use Rattle.refusal.proofs.Verdict.{none-holds, outcome-accepted}
 use Rattle.image.specs.Fields.{recordCapacity, issued, journalCapacity, journalCount, poolCapacity, poolUsed}
-use Rattle.changes.specs.Grounds.{noFreeRecord, noPoolRoom, noJournalRoom}
+use Rattle.changes.specs.Grounds.{noJournalRoom}
+use Rattle.form_entry.specs.Calls.{newGrounds}
 use Rattle.form_entry.specs.Inner.{againAnswer, newAnswer}
 
 module _ (b : List ℕ) where
@@ -19,6 +20,5 @@ module _ (b : List ℕ) where
   pub new-room : (residues : ℕ) → Accepted ≡ newAnswer b residues
       → (issued b < recordCapacity b) × (poolUsed b + residues ≤ poolCapacity b) × (journalCount b < journalCapacity b)
   new-room residues e =
-      let grounds = noFreeRecord b ∷ noPoolRoom b residues ∷ noJournalRoom b ∷ [] in
-      let none = none-holds grounds (outcome-accepted (verdict grounds) e) in
+      let none = none-holds (newGrounds b residues) (outcome-accepted (verdict (newGrounds b residues)) e) in
       (leb-false _ _ (none 0), ltb-false _ _ (none 1), leb-false _ _ (none 2))

@@ -10,9 +10,13 @@ use Rattle.form_entry.specs.declared.Entered.{Entered}
 use Rattle.form_entry.specs.declared.Entered.the-variants.{Refused}
 use Rattle.form_entry.specs.Found.{Found, _under_, new, again, known, found, answerOf, entered}
 
+-- room for the next number, and so many residues: 13, 14, 15
+abbrev pub newGrounds : List ℕ → ℕ → List Ground
+newGrounds b residues = noFreeRecord b ∷ noPoolRoom b residues ∷ noJournalRoom b ∷ []
+
 -- room for what was found: none is asked for "known", 15 for "again", 13, 14, 15 for "new"
 abbrev pub roomGrounds : List ℕ → Normal → Found → List Ground
-roomGrounds b f (new under i) = noFreeRecord b ∷ noPoolRoom b (length (f .replacement)) ∷ noJournalRoom b ∷ []
+roomGrounds b f (new under i) = newGrounds b (length (f .replacement))
 roomGrounds b f (again under i) = noJournalRoom b ∷ []
 roomGrounds b f (known under i) = []
 
