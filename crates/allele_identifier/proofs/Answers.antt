@@ -14,7 +14,8 @@ use Rattle.refusal.specs.Verdict.{accepted, refused, verdict}
 use Rattle.refusal.specs.Writes.{Writes}
 use Rattle.refusal.proofs.WritesUnless.{writes-unless-then, writes-unless-short, writes-unless-room}
 use Rattle.refusal.proofs.Writes.{writes-all}
-use Rattle.refusal.proofs.Verdict.{verdict-first, verdict-then, verdict-fewer, verdict-later, outcome-accepted, outcome-refused}
+use Rattle.refusal.proofs.Verdict.{verdict-first, verdict-then, verdict-fewer, verdict-later, outcome-accepted}
+use Rattle.refusal.proofs.Verdict.{outcome-refused}
 use Rattle.alphabets.specs.Alphabets.{digestTextGrounds, digestTextAnswer, foreignNormal, digestLength}
 use Rattle.alphabets.proofs.DigestText.{digest-long}
 use Rattle.normal_form.specs.declared.Stretches.{Stretches}
@@ -100,7 +101,8 @@ module _ (r : List ℕ) (start end : ℕ) (x digest : List ℕ) where
         (allele-long r x w allele-fits digest)
 
     module _ (out : List ℕ) (place : ℕ) where
-      pub text-short : (answer : Written) → answer ≡ Unwritten (record { number = 6; value = joinedLength w + aroundSequence })
+      pub text-short : (answer : Written)
+          → answer ≡ Unwritten (record { number = 6; value = joinedLength w + aroundSequence })
           → ltb (length out) (place + (joinedLength w + aroundSequence)) ≡ true
           → WritesAllele r start end x digest out place answer out
       text-short answer a t =
@@ -119,18 +121,23 @@ module _ (r : List ℕ) (start end : ℕ) (x digest : List ℕ) where
           (writes-all accepted _ out place n left refl text-long e))
 
       -- and the identifier
-      pub identifier-short : (answer : Written) → answer ≡ Unwritten (record { number = 6; value = alleleIdentifierLength })
-          → ltb (length out) (place + alleleIdentifierLength) ≡ true → IdentifiesAllele r start end x digest out place answer out
+      pub identifier-short : (answer : Written)
+          → answer ≡ Unwritten (record { number = 6; value = alleleIdentifierLength })
+          → ltb (length out) (place + alleleIdentifierLength) ≡ true
+          → IdentifiesAllele r start end x digest out place answer out
       identifier-short answer a t =
           writes-unless-then _ _ out place answer out allele-accepted
-          (writes-unless-short _ out place alleleIdentifierLength (sym (length-allele-identifier (normal r start end x) digest)) answer a t)
+          (writes-unless-short _ out place alleleIdentifierLength
+          (sym (length-allele-identifier (normal r start end x) digest)) answer a t)
 
-      pub identifier-written : (answer : Written) (left : List ℕ) → ltb (length out) (place + alleleIdentifierLength) ≡ false
+      pub identifier-written : (answer : Written) (left : List ℕ)
+          → ltb (length out) (place + alleleIdentifierLength) ≡ false
           → Writes accepted (identifierOf (formIn r x w) digest) out place answer left
           → IdentifiesAllele r start end x digest out place answer left
       identifier-written answer left t p =
           writes-unless-then _ _ out place answer left allele-accepted
-          (writes-unless-room _ out place alleleIdentifierLength (sym (length-allele-identifier (normal r start end x) digest)) answer left
+          (writes-unless-room _ out place alleleIdentifierLength
+          (sym (length-allele-identifier (normal r start end x) digest)) answer left
           t
           (subst (λ (f : Normal). Writes accepted (identifierOf f digest) out place answer left) allele-form p))
 

@@ -27,7 +27,8 @@ pieces-join location a b c =
     = sym (append-assoc a (b ++ c) afterSequence ∙ ap (λ (l : List ℕ). a ++ l) (append-assoc b c afterSequence)) in
     ap (λ (l : List ℕ). beforeLocation ++ (location ++ (beforeSequence ++ l))) inner
 
-pub allele-hashed : (location a b c : List ℕ) → length location + (length a + (length b + (length c + alleleWords))) < 2 ^ 64
+pub allele-hashed : (location a b c : List ℕ)
+    → length location + (length a + (length b + (length c + alleleWords))) < 2 ^ 64
     → finished (fedAll begun (pieces location a b c)) ≡ sha512 (alleleText location (a ++ (b ++ c)))
 allele-hashed location a b c h =
     let long : length (alleleText location (a ++ (b ++ c))) < 2 ^ 64 =
@@ -36,7 +37,8 @@ allele-hashed location a b c h =
     (subst (λ (l : List ℕ). length l < 2 ^ 64) (sym (pieces-join location a b c)) long)
     ∙ ap sha512 (pieces-join location a b c)
 
-pub length-allele-identifier : (form : Normal) (digest : List ℕ) → length (identifierOf form digest) ≡ alleleIdentifierLength
+pub length-allele-identifier : (form : Normal) (digest : List ℕ)
+    → length (identifierOf form digest) ≡ alleleIdentifierLength
 unfolding identifierOf
 length-allele-identifier form digest = rw (length-sha512t24u (textOf form digest))
 

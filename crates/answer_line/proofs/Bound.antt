@@ -91,7 +91,8 @@ shown-short : (x : List ℕ) → length (shown x) ≤ length x + 1
 shown-short [] = omega arith
 shown-short (c ∷ x) = omega arith
 
-form-short : (f : Normal) → f .start < 2 ^ 64 → f .end < 2 ^ 64 → length (formReply f) ≤ frontRoom + length (f .replacement)
+form-short : (f : Normal) → f .start < 2 ^ 64 → f .end < 2 ^ 64
+    → length (formReply f) ≤ frontRoom + length (f .replacement)
 form-short f h g = simp length-append
     (omega (
       arith,

@@ -29,7 +29,8 @@ pub part-short : (l : List ℕ) (from to : ℕ) → from ≤ to → length (part
 part-short l from to h = simp length-take (omega arith)
 
 -- after a front there is room for the stretches and a line feed
-pub room-form : (r x : List ℕ) (w : Stretches) (out left : List ℕ) {at n : ℕ} → Fits r x w → Room r x out → at ≤ frontRoom
+pub room-form : (r x : List ℕ) (w : Stretches) (out left : List ℕ) {at n : ℕ} → Fits r x w → Room r x out
+    → at ≤ frontRoom
     → length left ≡ length out → n ≡ joinedLength w → at + n < length left
 room-form r x w out left f h l e s =
     omega (arith, f .before, f .ordered, f .after, f .allele .ordered, f .kept, f .inside)

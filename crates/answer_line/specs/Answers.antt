@@ -44,8 +44,8 @@ meaningText r (allele start end x) = alleleReply r start end x
 unfoldable pub answerLine : List ℕ → List ℕ → List ℕ
 answerLine r line = meaningText r (meaningOf line) ++ (lineFeed ∷ [])
 
--- the most bytes of an answer before its replacement: two numbers of 20 digits, a kind of 12 letters, three spaces and a
--- full stop
+-- the most bytes of an answer before its replacement: two numbers of 20 digits, a kind of 12 letters, three spaces and
+-- a full stop
 abbrev pub frontRoom : ℕ
 frontRoom = 56
 

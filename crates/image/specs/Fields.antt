@@ -4,8 +4,8 @@ use mathlib.Core.List.{List, [], _∷_, _++_}
 use Rattle.stretch.specs.Part.{part}
 use Rattle.image.specs.Numbers.{number, numbers}
 
--- the sizes of the header, of a record and of a journal entry; what hangs on a record's is told by proofs/Arranged
--- alone
+-- the sizes of the header, of a record and of a journal entry; what depends on a record's is told by the laws of
+-- proofs/Arranged.antt alone
 abbrev pub headerSize : ℕ
 headerSize = 76
 

@@ -57,7 +57,8 @@ fn record_placed(image: &[u8], at: usize, reference: usize, before: usize) -> bo
 fn pool_formed(image: &[u8], residues: usize) -> bool
     requires { ⌜ Header (now image) ⌝ }
     ensures { λ r. ⌜ r ≡ cond (eqb residues (poolUsed (now (image .entry))))
-        (every residue (part (now (image .entry)) (poolOffset (now (image .entry))) (poolOffset (now (image .entry)) + residues)))
+        (every residue (part (now (image .entry)) (poolOffset (now (image .entry)))
+        (poolOffset (now (image .entry)) + residues)))
         false ⌝ }
 {
     let used = read_number(image, POOL_USED_AT);

@@ -14,7 +14,8 @@ use Rattle.refusal.specs.declared.Written.the-variants.{Refused as WrittenRefus
 use Rattle.refusal.specs.Grounds.{outputTooShort}
 use Rattle.refusal.specs.Verdict.{Ground, Verdict, accepted, refused, verdict, tell}
 use Rattle.refusal.specs.Writes.{Writes, WritesUnless}
-use Rattle.refusal.proofs.Verdict.{none-holds, verdict-first, verdict-then, verdict-fewer, verdict-later, outcome-accepted, outcome-refused}
+use Rattle.refusal.proofs.Verdict.{none-holds, verdict-first, verdict-then, verdict-fewer, verdict-later}
+use Rattle.refusal.proofs.Verdict.{outcome-accepted, outcome-refused}
 use Rattle.refusal.proofs.Writes.{writes-nothing, writes-as}
 use Rattle.alphabets.specs.Alphabets.{digestLength, digestTextGrounds}
 use Rattle.alphabets.proofs.DigestText.{digest-long, digest-all}

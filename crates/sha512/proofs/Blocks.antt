@@ -11,7 +11,8 @@ use Rattle.sha512_block.specs.Blocks.{absorbed, hashed, blockSize}
 use Rattle.sha512.specs.Message.{rest}
 
 -- the first n blocks don't see what follows them
-absorbed-first : (n : ℕ) (s : Hash) (xs ys : List ℕ) → n * blockSize ≤ length xs → absorbed n s (xs ++ ys) ≡ absorbed n s xs
+absorbed-first : (n : ℕ) (s : Hash) (xs ys : List ℕ) → n * blockSize ≤ length xs
+    → absorbed n s (xs ++ ys) ≡ absorbed n s xs
 unfolding absorbed
 absorbed-first zero s xs ys h = refl
 absorbed-first (suc n) s xs ys h =
@@ -22,7 +23,8 @@ absorbed-first (suc n) s xs ys h =
       take-append-le blockSize (drop (n * blockSize) xs) ys (simp length-drop (omega arith)),
     )
 
-absorbed-add : (a n : ℕ) (s : Hash) (m : List ℕ) → absorbed (a + n) s m ≡ absorbed n (absorbed a s m) (drop (a * blockSize) m)
+absorbed-add : (a n : ℕ) (s : Hash) (m : List ℕ)
+    → absorbed (a + n) s m ≡ absorbed n (absorbed a s m) (drop (a * blockSize) m)
 unfolding absorbed
 absorbed-add a zero s m = ap (λ (k : ℕ). absorbed k s m) (add-zero a)
 absorbed-add a (suc n) s m =
@@ -33,7 +35,8 @@ unfolding rest
 length-rest m = rw length-drop (omega arith)
 
 -- the whole blocks of xs, and then those of what lies after them, are those of the join
-blocks-on : (xs ys : List ℕ) → length (xs ++ ys) / blockSize ≡ length xs / blockSize + length (rest xs ++ ys) / blockSize
+blocks-on : (xs ys : List ℕ)
+    → length (xs ++ ys) / blockSize ≡ length xs / blockSize + length (rest xs ++ ys) / blockSize
 blocks-on xs ys = rw (length-append xs ys, length-append (rest xs) ys, length-rest xs) (omega arith)
 
 rest-append : (xs ys : List ℕ) → rest xs ++ ys ≡ drop (length xs / blockSize * blockSize) (xs ++ ys)

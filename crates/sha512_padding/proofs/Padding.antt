@@ -41,7 +41,8 @@ unfolding padding
 length-padding n = simp (length-append, length-replicate, length-bytesOf) (omega arith)
 
 -- as many zeros as bytes that wait and their padding
-pub zeros-for : (head : List ℕ) (n k : ℕ) → length head ≡ n % blockSize → k ≡ n % blockSize + (17 + (239 - n % blockSize) % blockSize)
+pub zeros-for : (head : List ℕ) (n k : ℕ) → length head ≡ n % blockSize
+    → k ≡ n % blockSize + (17 + (239 - n % blockSize) % blockSize)
     → replicate {A = ℕ} k 0 ≡ replicate (length head + length (padding n)) 0
 zeros-for head n k e q = rw (length-padding, e, q)
 
@@ -64,6 +65,7 @@ pad-laid zeros head n z e =
     (set-over (over zeros 0 head) (length head) 0x80 (omega arith)
     ∙ over-next zeros 0 (length head) head (0x80 ∷ []) (omega arith) (omega arith)
     ∙ ap (λ (l : List ℕ). over l 0 (head ++ (0x80 ∷ []))) z)
-    ∙ over-zeros (head ++ (0x80 ∷ [])) (bytesOf 16 (n * 8)) (length head + length (padding n)) ((239 - n % blockSize) % blockSize)
+    ∙ over-zeros (head ++ (0x80 ∷ [])) (bytesOf 16 (n * 8)) (length head + length (padding n))
+    ((239 - n % blockSize) % blockSize)
     p (omega arith) (omega arith)
     ∙ append-assoc head (0x80 ∷ []) (replicate ((239 - n % blockSize) % blockSize) 0 ++ bytesOf 16 (n * 8))

@@ -1,7 +1,7 @@
--- `running_digest::feed` meets its contract: a walk of its MIR, by hand. The borrow of the state is opened for the state's
--- value, which goes to `sequence_identifier::feed`, and closed at the state that comes back.
--- Of the state's machine value the walk knows only that it has the struct's type, and of `sequence_identifier::feed` that it meets
--- its contract.
+-- `running_digest::feed` meets its contract: a walk of its MIR, by hand. The borrow of the state is opened for the
+-- state's value, which goes to `sequence_identifier::feed`, and closed at the state that comes back. Of the state's
+-- machine value the walk knows only that it has the struct's type, and of `sequence_identifier::feed` that it meets its
+-- contract.
 use mathlib.Core.Path.{_≡_, refl, ap}
 use Prim.Native.Nat.{ℕ}
 use mathlib.Core.List.{[], _∷_, List}

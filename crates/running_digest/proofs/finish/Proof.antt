@@ -1,7 +1,7 @@
--- `running_digest::finish` meets its contract: a walk of its MIR, by hand. The borrow of the state is looked into for the
--- state's value, which goes to `sequence_identifier::finish`, and shut again. The buffer is passed on for good.
--- Of the state's machine value the walk knows only that it has the struct's type, and of `sequence_identifier::finish` that it meets
--- its contract.
+-- `running_digest::finish` meets its contract: a walk of its MIR, by hand. The borrow of the state is looked into for
+-- the state's value, which goes to `sequence_identifier::finish`, and shut again. The buffer is passed on for good. Of
+-- the state's machine value the walk knows only that it has the struct's type, and of `sequence_identifier::finish`
+-- that it meets its contract.
 use mathlib.Core.Path.{_≡_, refl}
 use Prim.Native.Nat.{ℕ, _<_, _^_}
 use mathlib.Core.List.{[], _∷_, List}

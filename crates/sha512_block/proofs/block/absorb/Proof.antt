@@ -39,7 +39,8 @@ part-compress-end c = omega arith
 
 compress-requires : tie.Need-compress-requires Inv-loop μ-loop
 compress-requires c κs =
-    let e : c .before .before .before .loop .i * blockSize + blockSize - c .before .before .before .loop .i * blockSize ≡ blockSize =
+    let e : c .before .before .before .loop .i * blockSize + blockSize - c .before .before .before .loop .i * blockSize
+    ≡ blockSize =
     omega arith in
     (rw (e, length-take, length-drop) (omega arith), c .before .before .before .before .round-constants .ensures)
 
