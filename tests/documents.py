@@ -1,5 +1,6 @@
-"""Holds the documents to the tree: every file that they name is there, and every definition, law and call that
-docs/DEMANDS.md and docs/CALLS.md name is written somewhere.
+"""Holds the documents to the tree: every file that they name is there, every definition, law and call that
+docs/DEMANDS.md and docs/CALLS.md name is written somewhere, and what a row of DEMANDS.md states stands in a file that
+the row names.
 """
 import re
 import sys
@@ -36,10 +37,30 @@ def names_missing(document, words):
     return sorted(part for part in parts - words if not part.endswith("-"))
 
 
+def files_of(cell):
+    """The files of crates/ that a cell names; one without a folder stands beside the one before it."""
+    folder = Path()
+    for name in re.findall(r"[\w/]+\.(?:antt|rt)\b", cell):
+        folder = Path("crates", name).parent if "/" in name else folder
+        yield folder / Path(name).name
+
+
+def statements_elsewhere():
+    """The names that a row of docs/DEMANDS.md states and that none of its files has."""
+    for line in Path("docs/DEMANDS.md").read_text("utf-8").splitlines():
+        cells = line.split(" | ")
+        if not line.startswith("|") or len(cells) < 4:
+            continue
+        texts = [path.read_text("utf-8") for path in files_of(cells[2])]
+        words = {word for text in texts for word in re.findall(r"[\w-]+", text)}
+        yield from (name for name in re.findall(r"`([A-Za-z][\w-]*)`", cells[1]) if texts and name not in words)
+
+
 def main():
     words = names_written()
     missing = [f"{document} names {name}" for document in DOCUMENTS for name in files_missing(document)]
     missing += [f"{document} names {name}" for document in QUOTING for name in names_missing(document, words)]
+    missing += [f"docs/DEMANDS.md states {name} in no file of its row" for name in statements_elsewhere()]
     if missing:
         sys.exit("documents: FAILED: " + "; ".join(missing))
     print(f"documents: ok, {len(DOCUMENTS)} of them")
