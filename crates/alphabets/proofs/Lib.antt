@@ -1,4 +1,5 @@
 pub mod Foreign
+pub mod Letters
 pub mod Ranges
 pub mod DigestText
 pub mod Promises

@@ -7,3 +7,4 @@ pub use base64::DIGEST_LENGTH;
 pub use base64::check_digest_text;
 pub use base64::first_outside_base64url;
 pub use residues::first_foreign;
+pub use residues::is_letter;

@@ -8,7 +8,7 @@ ghost use Rattle.alphabets.specs.Alphabets.{letter, residue, foreign};
 // How many bytes are tested before one of them is looked for.
 const BLOCK: usize = 1024;
 
-fn is_letter(b: u8) -> bool
+pub fn is_letter(b: u8) -> bool
     ensures { λ r. ⌜ r ≡ letter b ⌝ }
 {
     b'A' <= b && b <= b'Z'

@@ -39,3 +39,11 @@ module _ (p : ℕ → Bool) where
   unfolding every
   every-end s i true h = rw (drop-of-length-le s {i = i} h)
   every-end s i false h = refl
+
+-- a class within another
+pub every-weaken : (p q : ℕ → Bool) → ((b : ℕ) → p b ≡ true → q b ≡ true) → (s : List ℕ) → every p s ≡ true
+    → every q s ≡ true
+unfolding every
+every-weaken p q w [] h = refl
+every-weaken p q w (x ∷ s) h =
+    by-cases (p x) (λ e. rw (w x e) (every-weaken p q w s (rw e at h))) (λ e. cc (rw e at h))

@@ -3,6 +3,7 @@ pub mod BigEndian
 pub mod Cases
 pub mod Class
 pub mod Common
+pub mod Every
 pub mod Interval
 pub mod Join
 pub mod Outside

@@ -1,7 +1,8 @@
 -- What two stretches share, when something stands around them and when it is taken away.
 use Prim.Native.Nat.{ℕ, _+_, _-_, _<_, _≤_}
+use native.Mathlib.Nat.{le-of-suc-le-suc, not-suc-le-zero}
 use native.Mathlib.Omega.{arith}
-use mathlib.Core.Path.{_≡_, _∙_, sym, ap}
+use mathlib.Core.Path.{_≡_, refl, _∙_, sym, ap}
 use mathlib.Core.Bool.{false}
 use mathlib.Core.List.{List, [], _∷_, _++_, reverse, reverse-append}
 use lib.Dec.{eqb}
@@ -11,7 +12,7 @@ use borrow.Author.Tests.{eqb-true}
 use Rattle.stretch.specs.Common.{lcp, lcs}
 use Rattle.stretch.specs.Same.{same}
 use Rattle.stretch.proofs.Cases.{by-cases}
-use Rattle.stretch.proofs.Common.{lcp-comm, lcp-le-right, lcp-take, lcp-past, lcp-within, same-lcp}
+use Rattle.stretch.proofs.Common.{lcp-nil, lcp-comm, lcp-le-right, lcp-take, lcp-past, lcp-within, same-lcp}
 use Rattle.stretch.proofs.Suffix.{lcs-comm, lcs-le-right, lcs-drop, lcs-past, lcs-within}
 use Rattle.stretch.proofs.Same.{same-eq}
 
@@ -76,3 +77,12 @@ same-short a b h =
     by-cases (same a b)
     (λ t. absurd (omega (arith, eqb-true (lcp a b) (length a) (sym (same-lcp a b (ap length (same-eq a b t))) ∙ t))))
     (λ f. f)
+
+-- what stands behind the longer of the two is never reached
+pub lcp-long : (xs zs ys : List ℕ) → length ys ≤ length xs → lcp (xs ++ zs) ys ≡ lcp xs ys
+unfolding lcp
+lcp-long [] zs [] h = lcp-nil zs
+lcp-long [] zs (y ∷ ys) h = absurd (not-suc-le-zero h)
+lcp-long (x ∷ xs) zs [] h = refl
+lcp-long (x ∷ xs) zs (y ∷ ys) h =
+    by-cases (eqb x y) (λ e. rw (e, lcp-long xs zs ys (le-of-suc-le-suc h))) (λ e. rw e)
