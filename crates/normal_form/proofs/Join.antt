@@ -31,7 +31,7 @@ take-append (suc i) [] v = rw (sub-zero (suc i))
 take-append zero (x ∷ u) v = rw (zero-sub (suc (length u)))
 take-append (suc i) (x ∷ u) v = rw (suc-sub-suc i (length u)) (ap (λ (l : List ℕ). x ∷ l) (take-append i u v))
 
-drop-front : (l : List ℕ) (i j : ℕ) → i ≤ j → i ≤ length l → drop i (take j l) ≡ part l i j
+pub drop-front : (l : List ℕ) (i j : ℕ) → i ≤ j → i ≤ length l → drop i (take j l) ≡ part l i j
 drop-front l i j h g = ap (drop i) (take-end l i j h) ∙ drop-at (take i l) (part l i j) i (length-take-le i l g)
 
 -- the piece before start, from a on

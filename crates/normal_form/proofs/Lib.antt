@@ -1,3 +1,4 @@
+pub mod Clean
 pub mod Extended
 pub mod Flanks
 pub mod Join

@@ -1,4 +1,5 @@
 pub mod Form
 pub mod Stretches
+pub mod Inner
 pub mod Steps
 pub mod Worked

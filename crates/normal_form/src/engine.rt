@@ -8,12 +8,15 @@ use super::lengths::beyond;
 use super::lengths::outline_of;
 use super::roll::roll_left;
 use super::roll::roll_right;
-use stretch::equal;
+use stretch::common_prefix;
+use stretch::common_suffix;
 use stretch::smaller;
 ghost use mathlib.Core.Path.{_≡_};
 ghost use Prim.Native.Nat.{_-_, _≤_, max};
-ghost use Rattle.normal_form.specs.Form.{Allele, altered};
-ghost use Rattle.normal_form.specs.Stretches.{spread, asGiven, changedStretches, stretchesOf};
+ghost use lib.ListN.{length};
+ghost use Rattle.normal_form.specs.Form.{Allele};
+ghost use Rattle.normal_form.specs.Stretches.{spread, asGiven, stretchesOf};
+ghost use Rattle.normal_form.specs.Inner.{Agrees, agreedOutline, agreedStretches};
 
 fn larger(a: usize, b: usize) -> usize
     ensures { λ r. ⌜ r ≡ max a b ⌝ }
@@ -60,17 +63,23 @@ fn as_given(start: usize, end: usize, given: usize) -> Stretches
 }
 
 // Trims and rolls a change.
-fn justify(reference: &[u8], start: usize, end: usize, replacement: &[u8]) -> Stretches
-    requires { ⌜ Allele (now reference) start end (now replacement) ⌝ }
+fn justify(
+    reference: &[u8],
+    start: usize,
+    end: usize,
+    given: usize,
+    ahead: usize,
+    behind: usize,
+) -> Stretches
+    requires { ⌜ Agrees (length (now reference)) start end given ahead behind ⌝ }
     ensures { λ r. ⌜
-        r ≡ changedStretches (now (reference .entry)) start end (now (replacement .entry))
-        (altered (now (reference .entry)) start end (now (replacement .entry))) ⌝ }
+        r ≡ spread (agreedOutline (now (reference .entry)) start end given ahead behind)
+        (length (now (reference .entry))) given start end ⌝ }
 {
     let n = reference.len();
-    let given = replacement.len();
     let after = n - end;
-    let p = start + roll_right(&reference[start..], replacement, &reference[end..]);
-    let q = after + roll_left(&reference[0..end], &reference[0..start], replacement);
+    let p = start + roll_right(&reference[start..], given, ahead, &reference[end..]);
+    let q = after + roll_left(&reference[0..end], given, behind, &reference[0..start]);
     lay(
         outline_of(n, start + given + after, p, q),
         n,
@@ -80,13 +89,32 @@ fn justify(reference: &[u8], start: usize, end: usize, replacement: &[u8]) -> St
     )
 }
 
-// The normal form of an allele, an unchanged one as given.
+// The normal form of an allele by how far its replacement, of `given` residues, agrees with the
+// reference: `ahead` of them from start on, and `behind` of them backwards from end on. An unchanged one
+// is answered as given.
+pub fn form_by_agreement(
+    reference: &[u8],
+    start: usize,
+    end: usize,
+    given: usize,
+    ahead: usize,
+    behind: usize,
+) -> Stretches
+    requires { ⌜ Agrees (length (now reference)) start end given ahead behind ⌝ }
+    ensures { λ r. ⌜ r ≡ agreedStretches (now (reference .entry)) start end given ahead behind ⌝ }
+{
+    if given == end - start && ahead == given {
+        return as_given(start, end, given);
+    }
+    justify(reference, start, end, given, ahead, behind)
+}
+
+// The normal form of an allele.
 pub fn normalise(reference: &[u8], start: usize, end: usize, replacement: &[u8]) -> Stretches
     requires { ⌜ Allele (now reference) start end (now replacement) ⌝ }
     ensures { λ r. ⌜ r ≡ stretchesOf (now (reference .entry)) start end (now (replacement .entry)) ⌝ }
 {
-    if equal(&reference[start..end], replacement) {
-        return as_given(start, end, replacement.len());
-    }
-    justify(reference, start, end, replacement)
+    let ahead = common_prefix(&reference[start..], replacement);
+    let behind = common_suffix(&reference[0..end], replacement);
+    form_by_agreement(reference, start, end, replacement.len(), ahead, behind)
 }

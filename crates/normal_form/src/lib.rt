@@ -10,6 +10,7 @@ mod pieces;
 mod roll;
 mod three;
 
+pub use engine::form_by_agreement;
 pub use engine::normalise;
 pub use lengths::outline_of;
 pub use pieces::joined_length;

@@ -3,28 +3,30 @@
 use stretch::common_prefix;
 use stretch::common_suffix;
 ghost use mathlib.Core.Path.{_≡_};
-ghost use mathlib.Core.List.{_++_};
-ghost use Rattle.stretch.specs.Common.{lcp, lcs};
+ghost use Prim.Native.Nat.{_≤_};
+ghost use lib.ListN.{length};
+ghost use Rattle.normal_form.specs.Inner.{rollsRight, rollsLeft};
 
-// How far the reference from start on agrees with the replacement and the reference from end on.
-pub fn roll_right(onward: &[u8], replacement: &[u8], after: &[u8]) -> usize
-    ensures { λ r. ⌜ r ≡ lcp (now (onward .entry)) (now (replacement .entry) ++ now (after .entry)) ⌝ }
+// How far the reference from start on agrees with the replacement and the reference from end on, where
+// it agrees with `agreed` of the `given` residues of the replacement.
+pub fn roll_right(onward: &[u8], given: usize, agreed: usize, after: &[u8]) -> usize
+    requires { ⌜ agreed ≤ length (now onward) ⌝ }
+    ensures { λ r. ⌜ r ≡ rollsRight (now (onward .entry)) given agreed (now (after .entry)) ⌝ }
 {
-    let ahead = common_prefix(onward, replacement);
-    if ahead < replacement.len() {
-        return ahead;
+    if agreed < given {
+        return agreed;
     }
-    ahead + common_prefix(&onward[ahead..], after)
+    agreed + common_prefix(&onward[agreed..], after)
 }
 
 // How far, backwards, the reference up to end agrees with the reference up to start and the
-// replacement.
-pub fn roll_left(back: &[u8], before: &[u8], replacement: &[u8]) -> usize
-    ensures { λ r. ⌜ r ≡ lcs (now (back .entry)) (now (before .entry) ++ now (replacement .entry)) ⌝ }
+// replacement, where it agrees with `agreed` of its `given` residues.
+pub fn roll_left(back: &[u8], given: usize, agreed: usize, before: &[u8]) -> usize
+    requires { ⌜ agreed ≤ length (now back) ⌝ }
+    ensures { λ r. ⌜ r ≡ rollsLeft (now (back .entry)) given agreed (now (before .entry)) ⌝ }
 {
-    let behind = common_suffix(back, replacement);
-    if behind < replacement.len() {
-        return behind;
+    if agreed < given {
+        return agreed;
     }
-    behind + common_suffix(&back[0..back.len() - behind], before)
+    agreed + common_suffix(&back[0..back.len() - agreed], before)
 }

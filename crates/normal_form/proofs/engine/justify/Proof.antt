@@ -1,12 +1,11 @@
 -- The rolls give p and q, and the outline follows.
 use native.Mathlib.Omega.{arith}
-use mathlib.Core.Path.{_∙_}
+use lib.ListN.{take, drop, length-drop}
+use lib.Seq.{length-take-le}
 use borrow.Author.Needs.{needs}
-use Rattle.stretch.proofs.Common.{lcp-le-left}
-use Rattle.stretch.proofs.Suffix.{lcs-le-left}
-use Rattle.normal_form.specs.Form.{altered}
-use Rattle.normal_form.specs.Stretches.{changedStretches}
-use Rattle.normal_form.proofs.Spot.{spot-p, spot-q, spot-outline, outline-fits}
+use Rattle.normal_form.specs.Inner.{agreedOutline}
+use Rattle.normal_form.proofs.Flanks.{rollsRight-le, rollsLeft-le}
+use Rattle.normal_form.proofs.Spot.{lent-right, lent-left, outlined-fits}
 use Rattle.normal_form.proofs.engine.justify.Statement.{statement}
 use Rattle.normal_form.proofs.engine.justify.Tie as tie
 
@@ -36,16 +35,16 @@ roll-right-requires c κs = search needs
 
 add-p : tie.Need-add-p
 add-p c =
-    let s = c .before .before .before .before .before in
-    let r = s .args .reference .now in
-    let start = s .args .start in
-    let end = s .args .end in
-    let x = s .args .replacement .now in
+    let s = c .before .before .before .before in
+    let a = s .args in
+    let r = a .reference .now in
     omega (
       arith,
-      spot-p r start end x (s .pre .ordered) (s .pre .inside) _ (c .roll-right .ensures),
-      lcp-le-left r (altered r start end x),
-      s .pre .reference,
+      lent-right r (a .start) (a .end) (a .given) (a .ahead) _ (c .roll-right .ensures),
+      rollsRight-le (drop (a .start) r) (a .given) (a .ahead) (drop (a .end) r)
+          (omega (arith, length-drop (a .start) r, s .pre)),
+      length-drop (a .start) r,
+      s .pre,
     )
 
 sub-roll-left : tie.Need-sub-roll-left
@@ -71,16 +70,15 @@ roll-left-requires c κs = search needs
 
 add-q : tie.Need-add-q
 add-q c =
-    let s = c .before .before .before .before .before .before .before .before in
-    let r = s .args .reference .now in
-    let start = s .args .start in
-    let end = s .args .end in
-    let x = s .args .replacement .now in
+    let s = c .before .before .before .before .before .before .before in
+    let a = s .args in
+    let r = a .reference .now in
+    let long = length-take-le (a .end) r (s .pre .inside) in
     omega (
       arith,
-      spot-q r start end x (s .pre .ordered) (s .pre .inside) _ (c .roll-left .ensures),
-      lcs-le-left r (altered r start end x),
-      s .pre .reference,
+      lent-left r (a .start) (a .end) (a .given) (a .behind) _ (c .roll-left .ensures),
+      rollsLeft-le (take (a .end) r) (a .given) (a .behind) (take (a .start) r) (omega (arith, s .pre)),
+      s .pre,
     )
 
 add-outline-of : tie.Need-add-outline-of
@@ -96,29 +94,30 @@ lay-requires : tie.Need-lay-requires
 lay-requires c κs =
     let l = c .before in
     let d = l .before .before .before in
-    let s = d .before .before .before .before .before in
-    let o = s .pre .ordered in
-    let i = s .pre .inside in
-    let r = s .args .reference .now in
-    let x = s .args .replacement .now in
-    outline-fits r (s .args .start) (s .args .end) x o i _
-    (c .outline-of .ensures
-    ∙ spot-outline r (s .args .start) (s .args .end) x o i _ _
-    (spot-p _ _ _ _ o i _ (d .roll-right .ensures)) (spot-q _ _ _ _ o i _ (l .roll-left .ensures)))
+    let s = d .before .before .before .before in
+    let a = s .args in
+    let r = a .reference .now in
+    let long = length-take-le (a .end) r (s .pre .inside) in
+    outlined-fits _ (a .start) (a .end) (a .given) _ _ (s .pre .ordered) (s .pre .inside) (omega arith)
+    (omega (
+      arith,
+      lent-left r (a .start) (a .end) (a .given) (a .behind) _ (l .roll-left .ensures),
+      rollsLeft-le (take (a .end) r) (a .given) (a .behind) (take (a .start) r) (omega (arith, s .pre)),
+      s .pre,
+    )) _ (c .outline-of .ensures)
 
 returns : tie.Need-returns
-unfolding changedStretches
+unfolding agreedOutline
 returns c =
     let l = c .before .before in
     let d = l .before .before .before in
-    let s = d .before .before .before .before .before in
-    let o = s .pre .ordered in
-    let i = s .pre .inside in
+    let a = d .before .before .before .before .args in
+    let r = a .reference .now in
     rw (
       c .lay .ensures,
-      c .before .outline-of .ensures
-          ∙ spot-outline (s .args .reference .now) (s .args .start) (s .args .end) (s .args .replacement .now) o i _ _
-          (spot-p _ _ _ _ o i _ (d .roll-right .ensures)) (spot-q _ _ _ _ o i _ (l .roll-left .ensures)),
+      c .before .outline-of .ensures,
+      lent-right r (a .start) (a .end) (a .given) (a .ahead) _ (d .roll-right .ensures),
+      lent-left r (a .start) (a .end) (a .given) (a .behind) _ (l .roll-left .ensures),
     )
 
 pub justify-spec : {M : Type 1} → statement M
