@@ -53,13 +53,13 @@ module _ (r x : List ℕ) (w : Stretches) (f : Fits r x w) where
   clean-accepts k e l = rw (← e, le-ltb k (length (joined r x w)) (omega (arith, long)))
 
   module _ (out : List ℕ) (place : ℕ) where
-    lays-nothing : ltb (length out) (place + joinedLength w) ≡ true
+    pub lays-nothing : ltb (length out) (place + joinedLength w) ≡ true
         → Lays r x w out place (Unformed (record { number = 6; value = joinedLength w })) out
     lays-nothing t =
         let v : ltb (length out) (place + length (joined r x w)) ≡ true = rw long at t in
         record { answers = rw (v, long); leaves = rw v }
 
-    lays-all : ltb (length out) (place + joinedLength w) ≡ false
+    pub lays-all : ltb (length out) (place + joinedLength w) ≡ false
         → Lays r x w out place (Formed (formOf w)) (over out place (joined r x w))
     lays-all t =
         let v : ltb (length out) (place + length (joined r x w)) ≡ false = rw long at t in
@@ -135,7 +135,7 @@ module _ (r : List ℕ) (start end : ℕ) (x : List ℕ) where
   pub clean-form : (w : Stretches) → Accepted w ≡ locatedClean r start end x → formIn r x w ≡ normal r start end x
   clean-form w e = let t = clean-accepted w e in rw (t .1) (stretches-join r start end x (clean-allele (t .0)))
 
-  lays-normal : (w : Stretches) (out : List ℕ) (place : ℕ) (answer : Normalised) (left : List ℕ)
+  pub lays-normal : (w : Stretches) (out : List ℕ) (place : ℕ) (answer : Normalised) (left : List ℕ)
       → Accepted w ≡ locatedClean r start end x → Lays r x w out place answer left
       → Normalises r start end x out place answer left
   unfolding normalGrounds
