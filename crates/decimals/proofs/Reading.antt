@@ -45,6 +45,12 @@ value-decimal =
 pub decimal-injective : (m n : ℕ) → decimal m ≡ decimal n → m ≡ n
 decimal-injective m n e = sym (value-decimal m) ∙ ap value e ∙ value-decimal n
 
+-- a value that is a number within limits
+pub record Within (least most v n : ℕ) : Type 0 where
+  pub is : v ≡ n
+  pub low : least ≤ n
+  pub high : n ≤ most
+
 module _ (least most : ℕ) (s : List ℕ) where
   -- the number of a text that is a decimal
   pub number-is : (n : ℕ) → least ≤ n → n ≤ most → s ≡ decimal n → numberWithin least most s ≡ Is n
@@ -89,6 +95,16 @@ module _ (least most : ℕ) (s : List ℕ) where
       none f = rw (number-none f) (absent f)
 
   -- a text has one answer
+  reads-value : (a : Number) → Reads least most s a → (n : ℕ) → a ≡ Is n → Within least most (value s) n
+  reads-value _ (is m l h e) n d =
+      let v : m ≡ n = cc in
+      record { is = ap value e ∙ value-decimal m ∙ v; low = rw v at l; high = rw v at h }
+  reads-value _ (absent f) n d = let z : _≡_ {A = ℕ} 0 1 = cc in absurd (omega arith)
+
+  -- a number that is read is what the digits stand for, within the limits
+  pub number-value : (n : ℕ) → numberWithin least most s ≡ Is n → Within least most (value s) n
+  number-value n e = reads-value (numberWithin least most s) numberOf-reads n e
+
   pub reads-once : (a₁ a₂ : Number) → Reads least most s a₁ → Reads least most s a₂ → a₁ ≡ a₂
   reads-once _ _ (is m _ _ p) (is n _ _ q) = ap Is (decimal-injective m n (sym p ∙ q))
   reads-once _ _ (is m l h p) (absent f) = absurd (f m l h p)
