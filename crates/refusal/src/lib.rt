@@ -60,6 +60,12 @@ pub const NOT_ACTIVE: u64 = 17;
 
 pub const NOTHING_TO_UNDO: u64 = 18;
 
+pub const NO_DATA_LINE: u64 = 19;
+
+pub const REF_DIFFERS: u64 = 20;
+
+pub const NO_ALTERNATE: u64 = 21;
+
 pub const REFERENCE_LIMIT: u64 = 1_000_000_000;
 
 pub const REPLACEMENT_LIMIT: u64 = 1_000_000;

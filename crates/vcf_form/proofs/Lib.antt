@@ -1,0 +1,4 @@
+pub mod Named
+pub mod Onward
+pub mod Passed
+pub mod Promises
