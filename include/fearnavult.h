@@ -3,7 +3,7 @@
  *
  * `./install PREFIX` puts this header into PREFIX/include and libfearnavult.a into PREFIX/lib. The
  * library is for x86-64, allocates nothing, has no state of its own, and calls only memcpy and memset of
- * your C library. examples/register.c is a whole program that uses it.
+ * your C library. examples/register.c is a whole program that uses it, and examples/vcf.c another.
  *
  * A slice is a pointer and then its length in bytes. The pointer must not be null, even where the
  * length is 0, and that many bytes must be readable there (and writable, where it is not const)
@@ -416,6 +416,81 @@ fv_undone fv_undo(uint8_t *image, size_t image_len);
  * After fv_entry's example the answer is { 0, 0 }. Number 1 stays active, and an undo is refused { 18, 0, 0 }.
  */
 fv_outcome fv_seal(uint8_t *image, size_t image_len);
+
+/*
+ * VCF: the alleles of one data line of a VCF file, on the reference that its CHROM names. The caller
+ * finds that reference and lends it.
+ *
+ * A line is lent without its line end; a carriage return or a line feed that is left in it is a byte like
+ * others. Tabs part its columns: CHROM, POS, ID, REF, ALT, and then any others or none, in which no byte
+ * matters. CHROM and ID may hold anything or nothing, and a line that begins with # is read as others
+ * are. Commas part ALT into places, counted from 1, with an alternate at each. An ALT of no bytes has one
+ * place, and no alternate there.
+ *
+ * POS counts residues from 1. The allele of an alternate starts at position POS - 1, ends the length of
+ * REF further on, and has the alternate for its replacement. Lower case in REF and ALT is read as upper
+ * case, and what is written is upper case; the line stays as it is. The reference is not read so: a
+ * lower-case letter there differs from every REF.
+ *
+ * From a line to a number: ask fv_vcf_count for the places, and fv_vcf_form for the form of each; then
+ * lend its start, its end and the replacement that it wrote to fv_entry or fv_allele_identifier, as they
+ * are. That is the allele of the line, since a normal form is its own normal form. This way ends where the
+ * normal replacement has over 1,000,000 letters, which those calls refuse under 1: lend them the start,
+ * the end and the alternate, in upper case, that the line itself gives.
+ */
+
+/* The answer of a count. */
+typedef struct {
+    uint64_t refusal;
+    uint64_t value;
+    uint64_t count;
+} fv_counted;
+
+/*
+ * Counts the places of a line's ALT: one more than it has commas. What stands at them is not looked at.
+ * Nothing is written.
+ *
+ * Accepted: { 0, 0, count }. Refused, in this order:
+ *   1, value 0    the reference has over 1,000,000,000 bytes;
+ *   19, value 0   the line has fewer than five columns; or REF is empty, or has a byte that is no letter,
+ *                 A to Z or a to z; or POS is not a decimal from 1 to n, the length of the reference,
+ *                 without sign or leading zero;
+ *   20, value i   letter i of REF, from 0, is past the end of the reference or is not the one there, the
+ *                 first such letter.
+ *
+ * With the reference `TCAGCAGCAGT` and a line whose columns are `chr1`, `4`, `.`, `G` and `GCAG,*,t`, the
+ * answer is { 0, 0, 3 }. With the REF `GCAT` it is { 20, 3, 0 }, with the POS `12` it is { 19, 0, 0 }.
+ */
+fv_counted fv_vcf_count(const uint8_t *reference, size_t reference_len, const uint8_t *line, size_t line_len);
+
+/*
+ * Answers the normal form of the allele that the alternate at one place of a line's ALT makes, and writes
+ * its replacement, as fv_normal_form does. An alternate that is REF again changes nothing, and is
+ * answered with kind 0.
+ *
+ * An alternate that is not all letters is refused, and the others of its line are answered: one that is
+ * missing (`.` or `*`), symbolic (`<DEL>`), a breakend (`G[2:421681[`, `G.`) or empty.
+ *
+ * Accepted: { 0, 0, kind, start, end, length }. Refused, in this order:
+ *   1, value 0    as fv_vcf_count is;
+ *   19, value 0   likewise;
+ *   20, value i   likewise;
+ *   21, value a   `alternate`, which is a, is 0 or above the count of the places; or what stands at that
+ *                 place is not one or more letters, A to Z or a to z;
+ *   1, value 1    the alternate has over 1,000,000 letters;
+ *   6, value l    the normal replacement has l bytes, and `out` has fewer from `place` on, or `place` is
+ *                 past its end.
+ * A call with an `out` of 0 bytes and place 0 learns the length that is needed, as with fv_normal_form.
+ *
+ * With the line of fv_vcf_count's example, place 0 and room for 12 bytes, alternate 1 is answered
+ * { 0, 0, 2, 1, 10, 12 }, and `out` then holds
+ * CAGCAGCAGCAG
+ * Alternate 2 is refused { 21, 2, 0, 0, 0, 0 }, alternate 4 { 21, 4, 0, 0, 0, 0 }. Alternate 3 is answered
+ * { 0, 0, 1, 3, 4, 1 }, and `out` then holds
+ * T
+ */
+fv_form fv_vcf_form(const uint8_t *reference, size_t reference_len, const uint8_t *line, size_t line_len,
+                    uint64_t alternate, uint8_t *out, size_t out_len, uint64_t place);
 
 #ifdef __cplusplus
 }

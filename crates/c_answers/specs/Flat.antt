@@ -13,11 +13,14 @@ use Rattle.text_reader.specs.declared.LocationRead.{LocationRead}
 use Rattle.text_reader.specs.declared.LocationRead.the-variants.{Accepted as Located, Refused as Unlocated}
 use Rattle.text_reader.specs.declared.AlleleRead.{AlleleRead}
 use Rattle.text_reader.specs.declared.AlleleRead.the-variants.{Accepted as Alleled, Refused as Unalleled}
+use Rattle.vcf_line.specs.declared.Counted.{Counted}
+use Rattle.vcf_line.specs.declared.Counted.the-variants.{Places, Refused as Uncounted}
 use Rattle.form_entry.specs.declared.Entered.{Entered}
 use Rattle.form_entry.specs.declared.Entered.the-variants.{New, Again, Known, Refused as Unentered}
 use Rattle.register.specs.declared.Undone.{Undone}
 use Rattle.register.specs.declared.Undone.the-variants.{Number, Refused as NotUndone}
 use Rattle.c_answers.specs.declared.FvAllele.{FvAllele}
+use Rattle.c_answers.specs.declared.FvCounted.{FvCounted}
 use Rattle.c_answers.specs.declared.FvEntered.{FvEntered}
 use Rattle.c_answers.specs.declared.FvForm.{FvForm}
 use Rattle.c_answers.specs.declared.FvLocation.{FvLocation}
@@ -48,6 +51,10 @@ abbrev pub flatAllele : AlleleRead → FvAllele
 flatAllele (Alleled p) =
     record { refusal = 0; value = 0; location = p .location; sequence = p .sequence; length = p .length }
 flatAllele (Unalleled r) = record { refusal = r .number; value = r .value; location = 0; sequence = 0; length = 0 }
+
+abbrev pub flatCounted : Counted → FvCounted
+flatCounted (Places n) = record { refusal = 0; value = 0; count = n }
+flatCounted (Uncounted r) = record { refusal = r .number; value = r .value; count = 0 }
 
 abbrev pub flatOutcome : Outcome → FvOutcome
 flatOutcome Accepted = record { refusal = 0; value = 0 }

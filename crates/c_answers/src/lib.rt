@@ -9,6 +9,7 @@ pub use numbered::flat_entered;
 pub use numbered::flat_outcome;
 pub use numbered::flat_undone;
 pub use read::flat_allele;
+pub use read::flat_counted;
 pub use read::flat_location;
 pub use written::flat_form;
 pub use written::flat_written;
@@ -54,6 +55,15 @@ pub struct FvAllele {
     pub location: u64,
     pub sequence: u64,
     pub length: u64,
+}
+
+// What the count of a line's alternates answers: the refusal as above, and how many places there are.
+// Each is 0 where it doesn't apply.
+#[repr(C)]
+pub struct FvCounted {
+    pub refusal: u64,
+    pub value: u64,
+    pub count: u64,
 }
 
 // What a call answers that only accepts or refuses: the refusal as above.

@@ -1,10 +1,12 @@
 // The answers of the calls that read a text, flattened.
 use super::FvAllele;
+use super::FvCounted;
 use super::FvLocation;
 use text_reader::AlleleRead;
 use text_reader::LocationRead;
+use vcf_line::Counted;
 ghost use mathlib.Core.Path.{_≡_};
-ghost use Rattle.c_answers.specs.Flat.{flatLocation, flatAllele};
+ghost use Rattle.c_answers.specs.Flat.{flatLocation, flatAllele, flatCounted};
 
 pub fn flat_location(a: LocationRead) -> FvLocation
     ensures { λ r. ⌜ r ≡ flatLocation a ⌝ }
@@ -44,6 +46,23 @@ pub fn flat_allele(a: AlleleRead) -> FvAllele
             location: 0,
             sequence: 0,
             length: 0,
+        },
+    }
+}
+
+pub fn flat_counted(a: Counted) -> FvCounted
+    ensures { λ r. ⌜ r ≡ flatCounted a ⌝ }
+{
+    match a {
+        Counted::Places(count) => FvCounted {
+            refusal: 0,
+            value: 0,
+            count,
+        },
+        Counted::Refused(why) => FvCounted {
+            refusal: why.number,
+            value: why.value,
+            count: 0,
         },
     }
 }

@@ -9,6 +9,10 @@ use Rattle.normal_form_calls.specs.Calls.{Normalises}
 use Rattle.normal_form_calls.proofs.Promises.{normalises-once}
 use Rattle.text_reader.specs.Accepted.{ReadsLocation, ReadsAllele}
 use Rattle.text_reader.proofs.Promises.{reads-location-once, reads-allele-once}
+use Rattle.vcf_line.specs.Calls.{counted}
+use Rattle.vcf_line.proofs.Promises.{counts-once}
+use Rattle.vcf_form.specs.Calls.{VcfForms}
+use Rattle.vcf_form.proofs.Promises.{vcf-forms-once}
 use Rattle.sha512.specs.declared.Running.{Running}
 use Rattle.sequence_identifier.specs.Calls.{Identifies, Finishes}
 use Rattle.running_digest.specs.Calls.{Feeds}
@@ -22,6 +26,7 @@ use Rattle.entry.proofs.Promises.{enters-once}
 use Rattle.blank.proofs.Promises.{blanks-once}
 use Rattle.register.proofs.Promises.{withdraws-once, undoes-once, seals-once}
 use Rattle.c_answers.specs.declared.FvAllele.{FvAllele}
+use Rattle.c_answers.specs.declared.FvCounted.{FvCounted}
 use Rattle.c_answers.specs.declared.FvEntered.{FvEntered}
 use Rattle.c_answers.specs.declared.FvForm.{FvForm}
 use Rattle.c_answers.specs.declared.FvLocation.{FvLocation}
@@ -29,7 +34,7 @@ use Rattle.c_answers.specs.declared.FvOutcome.{FvOutcome}
 use Rattle.c_answers.specs.declared.FvUndone.{FvUndone}
 use Rattle.c_answers.specs.declared.FvWritten.{FvWritten}
 use Rattle.c_answers.specs.Flat.{flatWritten, flatForm, flatLocation, flatAllele, flatOutcome, flatEntered, flatUndone}
-use Rattle.c_answers.specs.Flat.{Flattened}
+use Rattle.c_answers.specs.Flat.{flatCounted, Flattened}
 
 -- one answer below is one answer above
 flat-once : {A B : Type 0} (flatten : A → B) (P Q : A → Type 0) (a₁ a₂ : B) (p : Flattened flatten P a₁)
@@ -103,6 +108,17 @@ pub flat-normalises-once : (r : List ℕ) (start end : ℕ) (x out : List ℕ) (
 flat-normalises-once r start end x out place a₁ a₂ l₁ l₂ =
     flat-left-once flatForm (λ l a. Normalises r start end x out place a l) a₁ a₂ l₁ l₂
     (λ u w. normalises-once r start end x out place u w l₁ l₂)
+
+pub flat-vcf-forms-once : (r line : List ℕ) (alternate : ℕ) (out : List ℕ) (place : ℕ) (a₁ a₂ : FvForm)
+    (l₁ l₂ : List ℕ) → Flattened flatForm (λ a. VcfForms r line alternate out place a l₁) a₁
+    → Flattened flatForm (λ a. VcfForms r line alternate out place a l₂) a₂ → (a₁ ≡ a₂) × (l₁ ≡ l₂)
+flat-vcf-forms-once r line alternate out place a₁ a₂ l₁ l₂ =
+    flat-left-once flatForm (λ l a. VcfForms r line alternate out place a l) a₁ a₂ l₁ l₂
+    (λ u w. vcf-forms-once r alternate out place line u w l₁ l₂)
+
+pub flat-counts-once : (r line : List ℕ) (a₁ a₂ : FvCounted) → Flattened flatCounted (λ a. a ≡ counted r line) a₁
+    → Flattened flatCounted (λ a. a ≡ counted r line) a₂ → a₁ ≡ a₂
+flat-counts-once r line a₁ a₂ p q = flat-once _ _ _ _ _ p q (counts-once r line _ _ (p .promised) (q .promised))
 
 module _ (text : List ℕ) where
   pub flat-reads-location-once : (a₁ a₂ : FvLocation) → Flattened flatLocation (ReadsLocation text) a₁

@@ -3,6 +3,7 @@
 //
 // Crate `c_answers` has the flattening and what every export promises.
 use c_answers::FvAllele;
+use c_answers::FvCounted;
 use c_answers::FvEntered;
 use c_answers::FvForm;
 use c_answers::FvLocation;
@@ -10,6 +11,7 @@ use c_answers::FvOutcome;
 use c_answers::FvUndone;
 use c_answers::FvWritten;
 use c_answers::flat_allele;
+use c_answers::flat_counted;
 use c_answers::flat_entered;
 use c_answers::flat_form;
 use c_answers::flat_location;
@@ -20,6 +22,8 @@ use sha512::Running;
 ghost use mathlib.Core.Path.{_≡_};
 ghost use Rattle.normal_form_calls.specs.Calls.{Normalises};
 ghost use Rattle.text_reader.specs.Accepted.{ReadsLocation, ReadsAllele};
+ghost use Rattle.vcf_line.specs.Calls.{counted};
+ghost use Rattle.vcf_form.specs.Calls.{VcfForms};
 ghost use Rattle.sha512.specs.Feeding.{begun};
 ghost use Rattle.sequence_identifier.specs.Calls.{Identifies, Finishes};
 ghost use Rattle.running_digest.specs.Calls.{Feeds};
@@ -29,7 +33,7 @@ ghost use Rattle.entry.specs.Calls.{Enters};
 ghost use Rattle.blank.specs.Calls.{Blanks};
 ghost use Rattle.register.specs.Calls.{Withdraws, Undoes, Seals};
 ghost use Rattle.c_answers.specs.Flat.{flatWritten, flatForm, flatLocation, flatAllele, flatOutcome, flatEntered};
-ghost use Rattle.c_answers.specs.Flat.{flatUndone, Flattened};
+ghost use Rattle.c_answers.specs.Flat.{flatCounted, flatUndone, Flattened};
 
 // As `sequence_identifier::sequence_identifier`.
 #[no_mangle]
@@ -82,6 +86,30 @@ pub extern "C" fn fv_normal_form(
         (now (out .entry)) place a (now (out .exit))) r ⌝ }
 {
     flat_form(normal_form_calls::normal_form(reference, start, end, replacement, out, place))
+}
+
+// As `vcf_line::vcf_count`.
+#[no_mangle]
+pub extern "C" fn fv_vcf_count(reference: &[u8], line: &[u8]) -> FvCounted
+    ensures { λ r. ⌜ Flattened flatCounted (λ a. a ≡ counted (now (reference .entry)) (now (line .entry))) r ⌝ }
+{
+    flat_counted(vcf_line::vcf_count(reference, line))
+}
+
+// As `vcf_form::vcf_form`.
+#[no_mangle]
+pub extern "C" fn fv_vcf_form(
+    reference: &[u8],
+    line: &[u8],
+    alternate: u64,
+    out: &mut [u8],
+    place: u64,
+) -> FvForm
+    ensures { λ r. ⌜
+        Flattened flatForm (λ a. VcfForms (now (reference .entry)) (now (line .entry)) alternate (now (out .entry))
+        place a (now (out .exit))) r ⌝ }
+{
+    flat_form(vcf_form::vcf_form(reference, line, alternate, out, place))
 }
 
 // As `location_identifier::location_text`.
