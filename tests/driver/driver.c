@@ -70,16 +70,18 @@ static int outcome(fv_outcome o, uint64_t *a) {
     return 2;
 }
 
+static int form(fv_form f, uint64_t *a) {
+    a[0] = f.refusal, a[1] = f.value, a[2] = f.kind, a[3] = f.start, a[4] = f.end, a[5] = f.length;
+    return 6;
+}
+
 /* Each of these makes a call and answers how many numbers it left in a. */
 static int make_form_or_text(char code, const uint64_t *n, const slice *s, uint64_t *a) {
     switch (code) {
     case 's':
         return written(fv_sequence_identifier(LENT(s[0]), LENT(s[1]), n[0]), a);
-    case 'n': {
-        fv_form f = fv_normal_form(LENT(s[0]), n[0], n[1], LENT(s[1]), LENT(s[2]), n[2]);
-        a[0] = f.refusal, a[1] = f.value, a[2] = f.kind, a[3] = f.start, a[4] = f.end, a[5] = f.length;
-        return 6;
-    }
+    case 'n':
+        return form(fv_normal_form(LENT(s[0]), n[0], n[1], LENT(s[1]), LENT(s[2]), n[2]), a);
     case 'L':
         return written(fv_location_text(n[0], n[1], n[2], LENT(s[0]), LENT(s[1]), n[3]), a);
     case 'l':
@@ -107,6 +109,19 @@ static int make_reading(char code, const uint64_t *n, const slice *s, uint64_t *
     }
     }
     stop("no such reading");
+}
+
+static int make_vcf(char code, const uint64_t *n, const slice *s, uint64_t *a) {
+    switch (code) {
+    case 'c': {
+        fv_counted c = fv_vcf_count(LENT(s[0]), LENT(s[1]));
+        a[0] = c.refusal, a[1] = c.value, a[2] = c.count;
+        return 3;
+    }
+    case 'v':
+        return form(fv_vcf_form(LENT(s[0]), LENT(s[1]), n[0], LENT(s[2]), n[1]), a);
+    }
+    stop("no such call on a VCF line");
 }
 
 static int make_register(char code, const uint64_t *n, const slice *s, uint64_t *a) {
@@ -184,6 +199,8 @@ static const call calls[] = {
     {'a', 3, "rrrw", make_form_or_text}, /* fv_allele_identifier: likewise */
     {'R', 0, "r", make_reading},         /* fv_read_location: text */
     {'r', 0, "r", make_reading},         /* fv_read_allele: text */
+    {'c', 0, "rr", make_vcf},            /* fv_vcf_count: reference, line */
+    {'v', 2, "rrw", make_vcf},           /* fv_vcf_form: alternate, place; reference, line, out */
     {'b', 4, "wr", make_register},       /* fv_blank: reference_length, records, journal, pool; image, digest */
     {'e', 2, "wrrr", make_register},     /* fv_entry: start, end; image, digest, reference, replacement */
     {'w', 1, "w", make_register},        /* fv_withdraw: number; image */

@@ -125,12 +125,38 @@ static void registers(void) {
     expect("fv_seal", undone(sealed, 18, 0, 0) && entered(sealed, 4, 4, "CAG", 3));
 }
 
+#define LINE(pos, ref) TEXT("chr1\t" pos "\t.\t" ref "\tGCAG,*,t")
+
+static int counted(fv_counted c, uint64_t refusal, uint64_t value, uint64_t count) {
+    return c.refusal == refusal && c.value == value && c.count == count;
+}
+
+/* Whether the answer to an alternate of the line is this form, or a refusal of this value, and this was written. */
+static int formed(uint64_t alternate, fv_form wanted, const char *text) {
+    fv_form f = fv_vcf_form(TEXT(REPEAT), LINE("4", "G"), alternate, out, 12, 0);
+    int is = f.refusal == wanted.refusal && f.value == wanted.value && f.kind == wanted.kind && f.start == wanted.start
+             && f.end == wanted.end && f.length == wanted.length && strcmp((const char *)out, text) == 0;
+    memset(out, 0, sizeof out);
+    return is;
+}
+
+static void vcf_lines(void) {
+    expect("fv_vcf_count", counted(fv_vcf_count(TEXT(REPEAT), LINE("4", "G")), 0, 0, 3));
+    expect("fv_vcf_count", counted(fv_vcf_count(TEXT(REPEAT), LINE("4", "GCAT")), 20, 3, 0));
+    expect("fv_vcf_count", counted(fv_vcf_count(TEXT(REPEAT), LINE("12", "G")), 19, 0, 0));
+    expect("fv_vcf_form", formed(1, (fv_form){0, 0, 2, 1, 10, 12}, "CAGCAGCAGCAG"));
+    expect("fv_vcf_form", formed(2, (fv_form){21, 2, 0, 0, 0, 0}, ""));
+    expect("fv_vcf_form", formed(4, (fv_form){21, 4, 0, 0, 0, 0}, ""));
+    expect("fv_vcf_form", formed(3, (fv_form){0, 0, 1, 3, 4, 1}, "T"));
+}
+
 int main(void) {
     sequences();
     forms();
     texts_written();
     texts_read();
     registers();
+    vcf_lines();
     printf("header: %d examples are answered as it says\n", met);
     return 0;
 }

@@ -18,6 +18,8 @@ from register_cases import register_cases
 from running_cases import running_cases
 from sequence_cases import sequence_identifier_cases
 from text_cases import allele_identifier_cases, allele_text_cases, location_identifier_cases, location_text_cases
+from vcf_cases import vcf_cases
+from vcf_molecules import vcf_molecule_cases
 
 # seed, cases, and for each call the outcomes that they have to meet: accepted, and refusals by number
 SUITES = (
@@ -29,6 +31,7 @@ SUITES = (
         "fv_allele_identifier": {"accepted"},
         "fv_read_allele": {"accepted", 8},
         "fv_entry": {14},
+        "fv_vcf_form": {"accepted", 6, 20},
     }),
     (41, sequence_identifier_cases, {"fv_sequence_identifier": {"accepted", 1, 4, 6}}),
     (42, running_cases, {
@@ -64,6 +67,8 @@ SUITES = (
         "fv_undo": {"accepted", 10, 18},
         "fv_seal": {"accepted", 10},
     }),
+    (54, vcf_cases, {"fv_vcf_count": {"accepted", 1, 19, 20}, "fv_vcf_form": {"accepted", 1, 6, 19, 20, 21}}),
+    (55, vcf_molecule_cases, {"fv_vcf_count": {"accepted"}, "fv_vcf_form": {"accepted"}}),
 )
 # So many suites run at a time. Each has its own seed, so that it makes the same calls in any company.
 SIDE_BY_SIDE = 2

@@ -31,6 +31,9 @@ class Untouched:
         """Zero is in no alphabet."""
         return self
 
+    def __getitem__(self, part):
+        return bytes(len(range(self.length)[part]))
+
     def __repr__(self):
         return f"{self.length} untouched zero bytes"
 

@@ -12,6 +12,7 @@ from images import image_of
 from register import Register
 from register_calls import entry_as
 from text_cases import ALLELE_IDENTIFIER, ALLELE_TEXT, some_digest
+from vcf_calls import form_case, line
 
 LIMIT = model.REFERENCE_LIMIT
 RESIDUES_LIMIT = texts.RESIDUES_LIMIT
@@ -82,6 +83,16 @@ def entries(rng):
     yield entry_as(image_of(rng, Register(1, 1, 100, LIMIT, digest)), digest, *INSERTION, form)
 
 
+def vcf_forms(rng):
+    """A residue in the place of the last one; a REF that runs past the end; and letters that come in, without room."""
+    out, most = rng.randbytes(3), model.REPLACEMENT_LIMIT
+    accepted = 0, 0, model.SUBSTITUTION, LIMIT - 1, LIMIT, 1
+    for ref, alt, answer, after in ((b"a", b"c", accepted, model.written(out, 1, b"C")),
+                                    (b"aA", b"c", (20, 1, 0, 0, 0, 0), out),
+                                    (b"A", b"a" * most, (6, LIMIT + most - 1, 0, 0, 0, 0), out)):
+        yield form_case(LONGEST, line(LIMIT, ref, alt), 1, out, 1, answer, after)
+
+
 def full_cases(rng):
     yield from read_texts(rng)
     yield from sequence_identifiers(rng)
@@ -89,3 +100,4 @@ def full_cases(rng):
     yield from normal_forms()
     yield from alleles_said(rng)
     yield from entries(rng)
+    yield from vcf_forms(rng)

@@ -1,0 +1,87 @@
+/*
+ * From VCF lines to numbers: each alternate of each line is brought to its normal form, and that is entered
+ * into a register. Three lines put CAG into a repeat of CAG, each in its own way: it is one molecule, so it
+ * has one number.
+ *
+ *     ./install PREFIX
+ *     cc -IPREFIX/include -o vcf examples/vcf.c PREFIX/lib/libfearnavult.a
+ */
+#include <stdint.h>
+#include <stdio.h>
+#include <string.h>
+
+#include "fearnavult.h"
+
+enum { DIGEST = 32, IDENTIFIER = 41 };
+
+/* Room for 5 records, 10 journal entries and 100 residues. */
+enum { RECORDS = 5, JOURNAL = 10, POOL = 100, IMAGE = 76 + 20 * RECORDS + 4 * JOURNAL + POOL };
+
+/* A form that would need more is refused under 6, which says how much. */
+enum { ROOM = 50 };
+
+static const char reference[] = "TCAGCAGCAGT";
+enum { REFERENCE = sizeof reference - 1 };
+
+/* CHROM, POS, ID, REF, ALT, and what else a caller prints, which is passed over. */
+static const char *const lines[] = {
+    "chr1\t4\t.\tG\tGCAG,T\t50\tPASS\tDP=31\tGT\t1/2",
+    "chr1\t1\t.\tt\ttcag\t48\tPASS\tDP=28\tGT\t0/1",
+    "chr1\t10\t.\tGT\tGCAGT,<DEL>,*\t50\tPASS\tDP=30\tGT\t1/3",
+    "chr1\t1\t.\tTCAG\tT,tcag\t44\tPASS\tDP=19\tGT\t1/2",
+    "chr1\t4\t.\tG\t.\t.\tPASS\tDP=33\tGT\t0/0",
+    "chr1\t5\t.\tA\tG\t12\tq20\tDP=7\tGT\t0/1",
+};
+
+static uint8_t image[IMAGE], identifier[IDENTIFIER];
+static const uint8_t *const digest = identifier + IDENTIFIER - DIGEST;
+
+static const uint8_t *bytes(const char *text) {
+    return (const uint8_t *)text;
+}
+
+/* Says whether a call was refused. */
+static int refused(uint64_t refusal, uint64_t value) {
+    if (refusal != 0)
+        printf("refused %d, %d\n", (int)refusal, (int)value);
+    return refusal != 0;
+}
+
+/* A normal form is its own normal form, so it is entered as it is. */
+static void enter(const fv_form *form, const uint8_t *replacement) {
+    static const char *const found[] = {"", "new", "again", "known"};
+    fv_entered e = fv_entry(image, IMAGE, digest, DIGEST, bytes(reference), REFERENCE, form->start, form->end,
+                            replacement, form->length);
+    if (!refused(e.refusal, e.value))
+        printf("%s, number %d, %d to %d, %.*s\n", found[e.answer], (int)e.number, (int)form->start, (int)form->end,
+               (int)form->length, (const char *)replacement);
+}
+
+static void take_alternate(const char *line, uint64_t alternate) {
+    uint8_t replacement[ROOM];
+    printf("  %d: ", (int)alternate);
+    fv_form form = fv_vcf_form(bytes(reference), REFERENCE, bytes(line), strlen(line), alternate, replacement, ROOM, 0);
+    if (!refused(form.refusal, form.value))
+        enter(&form, replacement);
+}
+
+static void take_line(const char *line) {
+    printf("%s\n", line);
+    fv_counted c = fv_vcf_count(bytes(reference), REFERENCE, bytes(line), strlen(line));
+    if (c.refusal != 0)
+        printf("  refused %d, %d\n", (int)c.refusal, (int)c.value);
+    for (uint64_t alternate = 1; alternate <= c.count; alternate++)
+        take_alternate(line, alternate);
+}
+
+int main(void) {
+    fv_written w = fv_sequence_identifier(bytes(reference), REFERENCE, identifier, IDENTIFIER, 0);
+    if (refused(w.refusal, w.value))
+        return 1;
+    fv_outcome o = fv_blank(image, IMAGE, REFERENCE, digest, DIGEST, RECORDS, JOURNAL, POOL);
+    if (refused(o.refusal, o.value))
+        return 1;
+    for (size_t i = 0; i < sizeof lines / sizeof *lines; i++)
+        take_line(lines[i]);
+    return 0;
+}
