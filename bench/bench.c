@@ -8,6 +8,7 @@
 #include "plain.h"
 #include "register.h"
 #include "tables.h"
+#include "vcf.h"
 
 /* Of the C library, whose headers are not everywhere. */
 int printf(const char *format, ...);
@@ -182,5 +183,6 @@ int main(int count, char **words) {
     form_lines();
     allele_lines(second);
     register_lines();
+    vcf_lines();
     return 0;
 }

@@ -1,0 +1,2 @@
+/* Prints the lines of the calls on VCF lines. */
+void vcf_lines(void);
