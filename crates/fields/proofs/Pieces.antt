@@ -31,18 +31,10 @@ onFirst-append c [] qs h = absurd (not-suc-le-zero h)
 onFirst-append c (p ∷ ps) qs h = refl
 
 module _ (mark : ℕ) where
-  pub parted-some : (s : List ℕ) → 0 < length (parted mark s)
+  parted-some : (s : List ℕ) → 0 < length (parted mark s)
   unfolding parted
   parted-some [] = omega arith
   parted-some (c ∷ s) = by-cases (eqb c mark) (λ e. rw e (omega arith)) (λ e. rw e (onFirst-some c (parted mark s)))
-
-  pub length-parted : (s : List ℕ) → length (parted mark s) ≤ length s + 1
-  unfolding parted
-  length-parted [] = omega arith
-  length-parted (c ∷ s) =
-      by-cases (eqb c mark)
-      (λ e. rw e (omega (arith, length-parted s)))
-      (λ e. rw (e, length-onFirst c (parted mark s) (parted-some s)) (omega (arith, length-parted s)))
 
   -- a mark between two texts parts them
   pub parted-append : (a b : List ℕ) → parted mark (a ++ (mark ∷ b)) ≡ parted mark a ++ parted mark b

@@ -26,14 +26,14 @@ pub fn nth_piece(s: &[u8], from: usize, byte: u8, number: u64) -> Piece
     Piece::At(Extent { from: at, to })
 }
 
-// Where the piece lies that comes `further` behind the next one after that which ends at `end`.
-pub fn piece_after(s: &[u8], end: usize, byte: u8, further: u64) -> Piece
-    ensures { λ r. ⌜ r ≡ pieceAfter byte (now (s .entry)) end further ⌝ }
+// Where the piece of that number, from 0, lies of those behind the one that ends at `end`.
+pub fn piece_after(s: &[u8], end: usize, byte: u8, number: u64) -> Piece
+    ensures { λ r. ⌜ r ≡ pieceAfter byte (now (s .entry)) end number ⌝ }
 {
     if s.len() <= end {
         return Piece::Absent;
     }
-    nth_piece(s, end + 1, byte, further)
+    nth_piece(s, end + 1, byte, number)
 }
 
 // How many bytes of `s` are that byte: one less than the pieces that it parts.

@@ -1,7 +1,7 @@
--- A stretch read as upper case: its length, its bytes, its parts, and joins.
+-- A stretch read as upper case: its length, its bytes, its parts.
 use Prim.Native.Nat.{ℕ, zero, suc, _-_}
 use mathlib.Core.Path.{_≡_, refl, _∙_, ap}
-use mathlib.Core.List.{List, [], _∷_, _++_}
+use mathlib.Core.List.{List, [], _∷_}
 use lib.ListN.{length, getD, take, drop, length-map, List·getD-map}
 use Rattle.stretch.specs.Part.{part}
 use Rattle.upper_case.specs.Upper.{upper, folded}
@@ -12,10 +12,6 @@ length-folded s = length-map s upper
 pub getD-folded : (s : List ℕ) (i : ℕ) → getD (folded s) i 0 ≡ upper (getD s i 0)
 unfolding upper
 getD-folded s i = List·getD-map upper s i 0
-
-pub folded-append : (a b : List ℕ) → folded (a ++ b) ≡ folded a ++ folded b
-folded-append [] b = refl
-folded-append (x ∷ a) b = ap (λ (l : List ℕ). upper x ∷ l) (folded-append a b)
 
 folded-take : (n : ℕ) (s : List ℕ) → folded (take n s) ≡ take n (folded s)
 folded-take zero s = refl

@@ -31,7 +31,7 @@ module _ (line : List ℕ) where
       → pieceOf tab line 0 3 ≡ At r
   ref-behind p e = piece-after tab line 0 1 p 1 ∙ e
 
-  pub alt-behind : {r : Extent} {a : Piece} → pieceOf tab line 0 3 ≡ At r → pieceAfter tab line (r .to) 0 ≡ a
+  alt-behind : {r : Extent} {a : Piece} → pieceOf tab line 0 3 ≡ At r → pieceAfter tab line (r .to) 0 ≡ a
       → pieceOf tab line 0 4 ≡ a
   alt-behind p e = piece-after tab line 0 3 p 0 ∙ e
 
