@@ -67,5 +67,5 @@ prove() {
 # to see that the tests notice a wrong one or to measure it.
 make_archive() {
     archive=${FV_ARCHIVE:-target/staticlib/libfearnavult.a}
-    [ -n "${FV_ARCHIVE:-}" ] || prove "$archive" "about four minutes" staticlib fearnavult
+    [ -n "${FV_ARCHIVE:-}" ] || prove "$archive" "about five minutes" staticlib fearnavult
 }

@@ -1,4 +1,4 @@
-// Decimals, written and read. Crates `text`, `words`, `input_line` and `answer_line` stand on them.
+// Decimals, written and read. Crates `text`, `words`, `input_line`, `answer_line` and `vcf_line` stand on them.
 //
 // specs/Decimal.antt has the decimal of a number, specs/Number.antt the number of a text, and
 // specs/Leads.antt the digits that a text begins with.

@@ -1,5 +1,5 @@
 // The calls for a normal form (document 01, "The normal form"): an allele is tested, formed and written.
-// Crates `answer_line`, `allele_identifier` and `entry` stand on them.
+// Crates `answer_line`, `vcf_form`, `allele_identifier` and `entry` stand on them.
 //
 // specs/Calls.antt has what they promise, and specs/Worked.antt the worked alleles as calls.
 mod call;
