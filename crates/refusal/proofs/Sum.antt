@@ -19,11 +19,7 @@ exceeds-by a b limit false h e = sym (le-ltb limit (a + b) (omega (arith, ltb-fa
 pub exceeds-rest : (a b limit : ℕ) → a ≤ limit → ltb (limit - a) b ≡ ltb limit (a + b)
 exceeds-rest a b limit h = exceeds-by a b limit (ltb (limit - a) b) h refl
 
--- a place that leaves room for n bytes lies in the buffer
-pub place-within : (room place n : ℕ) → ltb room (place + n) ≡ false → place ≤ room
-place-within room place n t = omega (arith, ltb-false room (place + n) t)
-
--- and the tail that is lent from there has that room
+-- the tail that is lent from a place that leaves room for n bytes has that room
 pub tail-room : (out : List ℕ) (place n : ℕ) → ltb (length out) (place + n) ≡ false
     → n ≤ length (take (length out - place) (drop place out))
 tail-room out place n t =

@@ -1,16 +1,15 @@
 -- The promise of a call that writes where there is room, 6 after its other grounds: what an accepted one tells, how it
 -- is met, and that it is unique.
-use Prim.Native.Nat.{ℕ, _+_, _-_, _≤_}
+use Prim.Native.Nat.{ℕ, _+_, _≤_}
 use native.Mathlib.Omega.{arith}
 use mathlib.Core.Path.{_≡_, refl}
 use mathlib.Core.Bool.{true, false}
 use mathlib.Core.List.{List, [], _∷_, _++_}
 use lib.Dec.{ltb}
-use lib.ListN.{length, take, drop}
+use lib.ListN.{length}
 use borrow.Author.Tests.{ltb-false}
-use Rattle.stretch.specs.Over.{over}
 use Rattle.stretch.specs.Part.{part}
-use Rattle.stretch.proofs.Over.{over-tail-front, part-over}
+use Rattle.stretch.proofs.Over.{part-over}
 use Rattle.refusal.specs.declared.Refusal.{Refusal}
 use Rattle.refusal.specs.declared.Written.{Written}
 use Rattle.refusal.specs.declared.Written.the-variants.{Bytes, Refused}
@@ -19,7 +18,7 @@ use Rattle.refusal.specs.Grounds.{outputTooShort}
 use Rattle.refusal.specs.Writes.{Writes, WritesUnless}
 use Rattle.refusal.proofs.Verdict.{none-holds, verdict-first, verdict-then, verdict-fewer, verdict-later}
 use Rattle.refusal.proofs.Keeps.{keeps-once}
-use Rattle.refusal.proofs.Writes.{writes-nothing, writes-all, writes-as}
+use Rattle.refusal.proofs.Writes.{writes-nothing, writes-as}
 
 -- what an accepted write tells: the grounds, the length, the bytes
 written-bytes : (v : Verdict) (n k : ℕ) → Bytes k ≡ tell Refused v (Bytes n) → (v ≡ accepted) × (k ≡ n)
@@ -80,13 +79,3 @@ module _ (text out : List ℕ) (place n : ℕ) (long : n ≡ length text) where
   writes-unless-room answer left t p =
       let v : ltb (length out) (place + length text) ≡ false = rw long at t in
       writes-as _ text out place accepted text answer left (rw v) refl p
-
-  -- the text at the front of a tail that was lent and comes back
-  pub writes-unless-tail : (tail : List ℕ) → ltb (length out) (place + n) ≡ false
-      → tail ≡ over (take (length out - place) (drop place out)) 0 text
-      → WritesUnless [] text out place (Bytes n)
-      (take place out ++ (tail ++ drop (length out - place) (drop place out)))
-  writes-unless-tail tail t e =
-      let room : place + length text ≤ length out = omega (arith, long, ltb-false (length out) (place + n) t) in
-      writes-unless-room (Bytes n) (take place out ++ (tail ++ drop (length out - place) (drop place out))) t
-      (writes-all accepted text out place n _ refl long (rw e (over-tail-front out place text room)))
