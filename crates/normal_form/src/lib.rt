@@ -12,6 +12,7 @@ mod three;
 
 pub use engine::form_by_agreement;
 pub use engine::normalise;
+pub use lengths::beyond;
 pub use lengths::outline_of;
 pub use pieces::joined_length;
 pub use pieces::reference_after;
