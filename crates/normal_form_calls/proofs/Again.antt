@@ -17,6 +17,7 @@ use Rattle.refusal.proofs.Verdict.{none-holds, verdict-fewer, verdict-later}
 use Rattle.alphabets.specs.Alphabets.{foreign, foreignNormal}
 use Rattle.normal_form.specs.Form.{Normal, normal}
 use Rattle.normal_form.proofs.Laws.{normal-ordered, normal-inside, normal-normal}
+use Rattle.moved.specs.declared.Moved.{Moved}
 use Rattle.normal_form_calls.specs.declared.Form.{Form}
 use Rattle.normal_form_calls.specs.declared.Normalised.the-variants.{Accepted as Formed, Refused as Unformed}
 use Rattle.normal_form_calls.specs.Calls.{givenGrounds, formGrounds, normalGrounds, numbersOf, Forms}
@@ -46,21 +47,21 @@ module _ (r : List ℕ) (start end : ℕ) (x : List ℕ) (v : verdict (formGroun
       )
 
 -- what a call tells that answers a form
-formed-as : (v : Verdict) (form said : Form) → Formed form ≡ tell Unformed v (Formed said)
+formed-as : (v : Verdict) (form said : Form) (m n : Moved) → Formed form m ≡ tell Unformed v (Formed said n)
     → (v ≡ accepted) × (form ≡ said)
-formed-as accepted form said h = (refl, cc)
-formed-as (refused q) form said h = (cc, cc)
+formed-as accepted form said m n h = (refl, cc)
+formed-as (refused q) form said m n h = (cc, cc)
 
 pub record FormWritten (v : Verdict) (f : Normal) (place : ℕ) (form : Form) (left : List ℕ) : Type 0 where
   pub passed : v ≡ accepted
   pub numbers : form ≡ numbersOf f
   pub stands : part left place (place + form .length) ≡ f .replacement
 
-pub form-written : (gs : List Ground) (f : Normal) (out : List ℕ) (place : ℕ) (form : Form) (left : List ℕ)
-    → (verdict gs ≡ accepted → place + length (f .replacement) ≤ length out)
-    → Forms (verdict gs) f out place (Formed form) left → FormWritten (verdict gs) f place form left
-form-written gs f out place form left room p =
-    let t = formed-as (verdict gs) form (numbersOf f) (p .answers) in
+pub form-written : (gs : List Ground) (f : Normal) (m : Moved) (out : List ℕ) (place : ℕ) (form : Form) (by : Moved)
+    (left : List ℕ) → (verdict gs ≡ accepted → place + length (f .replacement) ≤ length out)
+    → Forms (verdict gs) f m out place (Formed form by) left → FormWritten (verdict gs) f place form left
+form-written gs f m out place form by left room p =
+    let t = formed-as (verdict gs) form (numbersOf f) by m (p .answers) in
     let long : form .length ≡ length (f .replacement) = ap (λ (g : Form). g .length) (t .1) in
     record {
       passed = t .0;

@@ -21,6 +21,8 @@ use Rattle.normal_form.specs.Form.{Allele, Normal, normal}
 use Rattle.normal_form.specs.Stretches.{Fits, joined, joinedLength, stretchesOf, formIn}
 use Rattle.normal_form.proofs.Join.{stretches-fit, stretches-join}
 use Rattle.normal_form.proofs.Joined.{length-joined}
+use Rattle.moved.specs.Moved.{movedBy, movedIn}
+use Rattle.moved.proofs.Ends.{stretches-moved}
 use Rattle.normal_form_calls.specs.declared.Located.{Located}
 use Rattle.normal_form_calls.specs.declared.Located.the-variants.{Accepted, Refused}
 use Rattle.normal_form_calls.specs.declared.Normalised.{Normalised}
@@ -60,7 +62,7 @@ module _ (r x : List ℕ) (w : Stretches) (f : Fits r x w) where
         record { answers = rw (v, long); leaves = rw v }
 
     pub lays-all : ltb (length out) (place + joinedLength w) ≡ false
-        → Lays r x w out place (Formed (formOf w)) (over out place (joined r x w))
+        → Lays r x w out place (Formed (formOf w) (movedIn w)) (over out place (joined r x w))
     lays-all t =
         let v : ltb (length out) (place + length (joined r x w)) ≡ false = rw long at t in
         record { answers = rw (v, long); leaves = rw v }
@@ -135,6 +137,9 @@ module _ (r : List ℕ) (start end : ℕ) (x : List ℕ) where
   pub clean-form : (w : Stretches) → Accepted w ≡ locatedClean r start end x → formIn r x w ≡ normal r start end x
   clean-form w e = let t = clean-accepted w e in rw (t .1) (stretches-join r start end x (clean-allele (t .0)))
 
+  pub clean-moved : (w : Stretches) → Accepted w ≡ locatedClean r start end x → movedIn w ≡ movedBy r start end x
+  clean-moved w e = let t = clean-accepted w e in rw (t .1) (stretches-moved r start end x (clean-allele (t .0)))
+
   pub lays-normal : (w : Stretches) (out : List ℕ) (place : ℕ) (answer : Normalised) (left : List ℕ)
       → Accepted w ≡ locatedClean r start end x → Lays r x w out place answer left
       → Normalises r start end x out place answer left
@@ -143,13 +148,13 @@ module _ (r : List ℕ) (start end : ℕ) (x : List ℕ) where
       let six = outputTooShort (length out) place (length (normal r start end x .replacement)) ∷ [] in
       let v = verdict-then (formGrounds r start end x) six (clean-accepted w e .0) in
       rw v (subst
-      (λ (f : Normal). Forms (verdict (outputTooShort (length out) place (length (f .replacement)) ∷ [])) f out place
-      answer left)
-      (clean-form w e) p)
+      (λ (f : Normal). Forms (verdict (outputTooShort (length out) place (length (f .replacement)) ∷ [])) f
+      (movedBy r start end x) out place answer left)
+      (clean-form w e) (rw (clean-moved w e) at p))
 
   pub formed : (w : Stretches) (out : List ℕ) (place : ℕ) → Accepted w ≡ locatedClean r start end x
       → ltb (length out) (place + joinedLength w) ≡ false
-      → Normalises r start end x out place (Formed (formOf w)) (over out place (joined r x w))
+      → Normalises r start end x out place (Formed (formOf w) (movedIn w)) (over out place (joined r x w))
   formed w out place e t = lays-normal w out place _ _ e (lays-all r x w (clean-fits w e) out place t)
 
   pub no-room : (w : Stretches) (out : List ℕ) (place : ℕ) → Accepted w ≡ locatedClean r start end x

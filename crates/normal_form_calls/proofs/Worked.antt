@@ -15,9 +15,9 @@ use Rattle.alphabets.specs.Alphabets.{letter, residue}
 use Rattle.normal_form.specs.Form.{altered, shorter, within, ahead, behind, kindIn, kindOf, changedForm, normal}
 use Rattle.normal_form.specs.Worked.{Case, cases}
 use Rattle.normal_form.proofs.Worked.{formed, worked-normal}
-use Rattle.normal_form_calls.specs.declared.Normalised.the-variants.{Accepted as Formed}
-use Rattle.normal_form_calls.specs.Calls.{numbersOf, formGrounds, normalGrounds}
-use Rattle.normal_form_calls.specs.Worked.{Promised, Works, AllWork}
+use Rattle.moved.specs.Moved.{movedBy}
+use Rattle.normal_form_calls.specs.Calls.{formGrounds, normalGrounds}
+use Rattle.normal_form_calls.specs.Worked.{Promised, Works, AllWork, answerTo, moveIn, moves}
 use Rattle.normal_form_calls.proofs.Promises.{normalises-once}
 
 abbrev judged : Case → Verdict
@@ -32,13 +32,13 @@ accepted-cases = refl
 -- nor by 6 where there is room
 works : (c : Case) → formed c ≡ c .answer → judged c ≡ accepted
     → (out : List ℕ) (place : ℕ) → place + length (c .answer .replacement) ≤ length out → Works c out place
-unfolding normalGrounds
+unfolding normalGrounds movedBy
 works c form passed out place room =
     let six : verdict (outputTooShort (length out) place (length (c .answer .replacement)) ∷ []) ≡ accepted
     = rw (le-ltb (length out) (place + length (c .answer .replacement)) room) in
     let v : verdict (normalGrounds (c .reference) (c .start) (c .end) (c .replacement) (length out) place) ≡ accepted
     = verdict-then (formGrounds (c .reference) (c .start) (c .end) (c .replacement)) _ passed ∙ rw form six in
-    let met : Promised c out place (Formed (numbersOf (c .answer))) (over out place (c .answer .replacement))
+    let met : Promised c out place (answerTo c) (over out place (c .answer .replacement))
     = record { answers = rw (v, form); leaves = rw (v, form) } in
     record { met = met; only = λ answer left p. normalises-once _ _ _ _ out place _ _ _ _ p met }
 
@@ -50,3 +50,7 @@ all-work (c ∷ cs) p q = (works c (cc) (cc), all-work cs (cc) (cc))
 -- cases 1 to 12
 pub worked-calls : AllWork cases
 worked-calls = all-work cases worked-normal accepted-cases
+
+-- and how far each form moved
+pub worked-moves : map moveIn cases ≡ moves
+worked-moves = refl

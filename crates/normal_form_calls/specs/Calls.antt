@@ -14,6 +14,8 @@ use Rattle.alphabets.specs.Alphabets.{foreignGiven, foreignNormal}
 use Rattle.normal_form.specs.declared.Stretches.{Stretches}
 use Rattle.normal_form.specs.Form.{Normal, normal}
 use Rattle.normal_form.specs.Stretches.{joined, joinedLength, stretchesOf, formIn}
+use Rattle.moved.specs.declared.Moved.{Moved}
+use Rattle.moved.specs.Moved.{movedBy, movedIn}
 use Rattle.normal_form_calls.specs.declared.Form.{Form}
 use Rattle.normal_form_calls.specs.declared.Located.{Located}
 use Rattle.normal_form_calls.specs.declared.Located.the-variants.{Accepted, Refused}
@@ -62,16 +64,19 @@ numbersOf f = record { kind = f .kind; start = f .start; end = f .end; length = 
 abbrev pub formOf : Stretches → Form
 formOf w = record { kind = w .kind; start = w .start; end = w .end; length = joinedLength w }
 
--- the form is answered and its replacement stands in the buffer from the place on, or the buffer is as it was
-abbrev pub Forms : Verdict → Normal → List ℕ → ℕ → Normalised → List ℕ → Type 0
-Forms v f out place = Keeps Unformed v (Formed (numbersOf f)) out (over out place (f .replacement))
+-- the form is answered, with how far it moved, and its replacement stands in the buffer from the place on, or the
+-- buffer is as it was
+abbrev pub Forms : Verdict → Normal → Moved → List ℕ → ℕ → Normalised → List ℕ → Type 0
+Forms v f m out place = Keeps Unformed v (Formed (numbersOf f) m) out (over out place (f .replacement))
 
 -- 6 alone, of stretches that are found
 abbrev pub Lays : List ℕ → List ℕ → Stretches → List ℕ → ℕ → Normalised → List ℕ → Type 0
 Lays r x w out place =
-    Forms (verdict (outputTooShort (length out) place (length (joined r x w)) ∷ [])) (formIn r x w) out place
+    Forms (verdict (outputTooShort (length out) place (length (joined r x w)) ∷ [])) (formIn r x w) (movedIn w) out
+    place
 
 -- what `normal_form` promises
 abbrev pub Normalises : List ℕ → ℕ → ℕ → List ℕ → List ℕ → ℕ → Normalised → List ℕ → Type 0
 Normalises r start end x out place =
-    Forms (verdict (normalGrounds r start end x (length out) place)) (normal r start end x) out place
+    Forms (verdict (normalGrounds r start end x (length out) place)) (normal r start end x) (movedBy r start end x) out
+    place

@@ -3,6 +3,7 @@ use super::Form;
 use super::Located;
 use super::Normalised;
 use alphabets::first_foreign;
+use moved::moved_of;
 use normal_form::Stretches;
 use normal_form::first_foreign_of;
 use normal_form::joined_length;
@@ -25,7 +26,7 @@ use stretch::put_three;
 ghost use mathlib.Core.Path.{_≡_};
 ghost use Prim.Native.Nat.{_+_, _≤_};
 ghost use lib.ListN.{length};
-ghost use Rattle.stretch.specs.Over.{over};
+ghost use Rattle.stretch.specs.Over.{Wrote};
 ghost use Rattle.normal_form.specs.Stretches.{Fits, Countable, joined, joinedLength};
 ghost use Rattle.normal_form_calls.specs.Calls.{givenAnswer, located, locatedClean, cleanly, formOf, Normalises};
 
@@ -106,23 +107,32 @@ pub fn form_of(w: Stretches) -> Form
     }
 }
 
-// Lays the normal replacement over `out` from `at` on.
-fn write(reference: &[u8], replacement: &[u8], w: Stretches, out: &mut [u8], at: usize)
+// Lays the normal replacement over `out` from `at` on, and answers where it ends.
+pub fn write_form(
+    reference: &[u8],
+    replacement: &[u8],
+    w: Stretches,
+    out: &mut [u8],
+    at: usize,
+) -> usize
     requires { ⌜ Fits (now reference) (now replacement) w ⌝ }
     requires { ⌜ at + joinedLength w ≤ length (now out) ⌝ }
-    ensures { λ _. ⌜
-        now (out .exit) ≡ over (now (out .entry)) at (joined (now (reference .entry)) (now (replacement .entry)) w) ⌝ }
+    ensures { λ r. ⌜
+        Wrote (now (out .entry)) at (joined (now (reference .entry)) (now (replacement .entry)) w)
+        (now (out .exit)) r ⌝ }
 {
-    put_three(
+    let long = put_three(
         &mut out[at..],
         0,
         reference_before(reference, w),
         replacement_kept(replacement, w),
         reference_after(reference, w),
     );
+    at + long
 }
 
-// Writes the normal replacement of an allele into `out` from `place` on, and answers its form.
+// Writes the normal replacement of an allele into `out` from `place` on, and answers its form and how far
+// it moved.
 pub fn normal_form(
     reference: &[u8],
     start: u64,
@@ -141,8 +151,8 @@ pub fn normal_form(
             if sum_exceeds(place, form.length, out.len() as u64) {
                 return Normalised::Refused(refuse(OUTPUT_TOO_SHORT, form.length));
             }
-            write(reference, replacement, w, out, place as usize);
-            Normalised::Accepted(form)
+            write_form(reference, replacement, w, out, place as usize);
+            Normalised::Accepted(form, moved_of(w))
         }
         Located::Refused(why) => Normalised::Refused(why),
     }

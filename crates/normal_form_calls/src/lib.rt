@@ -10,6 +10,7 @@ pub use call::form_of;
 pub use call::locate;
 pub use call::locate_clean;
 pub use call::normal_form;
+pub use call::write_form;
 
 // A normal form, with the length of its replacement.
 pub struct Form {
@@ -20,7 +21,7 @@ pub struct Form {
 }
 
 pub enum Normalised {
-    Accepted(Form),
+    Accepted(Form, moved::Moved),
     Refused(refusal::Refusal),
 }
 

@@ -10,13 +10,16 @@ use Rattle.refusal.specs.Verdict.{accepted, verdict}
 use Rattle.refusal.proofs.Verdict.{verdict-later}
 use Rattle.normal_form.specs.Form.{altered, normal}
 use Rattle.normal_form.proofs.Laws.{altered-normal, normal-normal}
+use Rattle.moved.specs.declared.Moved.{Moved}
+use Rattle.moved.specs.Moved.{movedBy, still}
+use Rattle.moved.proofs.Ends.{normal-still}
 use Rattle.normal_form_calls.specs.declared.Form.{Form}
 use Rattle.normal_form_calls.specs.declared.Normalised.the-variants.{Accepted as Formed}
 use Rattle.normal_form_calls.specs.Calls.{formGrounds, normalGrounds}
 use Rattle.normal_form_calls.proofs.Again.{FormWritten, form-written, form-passed, room-passed, normal-passes}
 use Rattle.vcf_line.specs.Line.{startOf, endOf}
 use Rattle.vcf_line.specs.Calls.{noAlternate, lineGrounds}
-use Rattle.vcf_form.specs.Calls.{namedAt, replacementAt, lineForm, vcfGrounds, VcfForms}
+use Rattle.vcf_form.specs.Calls.{namedAt, replacementAt, lineForm, lineMoved, vcfGrounds, VcfForms}
 
 module _ (r line : List ℕ) (alternate : ℕ) where
   -- an accepted call has passed the tests of its allele
@@ -29,12 +32,13 @@ module _ (r line : List ℕ) (alternate : ℕ) where
       (normalGrounds r (startOf line .0) (endOf line .0) (replacementAt line alternate) room place)
       (verdict-later (lineGrounds r line) _ v)
 
-  module _ (out : List ℕ) (place : ℕ) (form : Form) (left : List ℕ)
-      (p : VcfForms r line alternate out place (Formed form) left) where
+  module _ (out : List ℕ) (place : ℕ) (form : Form) (by : Moved) (left : List ℕ)
+      (p : VcfForms r line alternate out place (Formed form by) left) where
     written : FormWritten (verdict (vcfGrounds r line alternate (length out) place)) (lineForm r line alternate) place
         form left
     written =
-        form-written (vcfGrounds r line alternate (length out) place) (lineForm r line alternate) out place form left
+        form-written (vcfGrounds r line alternate (length out) place) (lineForm r line alternate)
+        (lineMoved r line alternate) out place form by left
         (λ v. room-passed r _ _ _ (length out) place (allele-passed (length out) place v)) p
 
     -- it has the allele's normal form
@@ -43,6 +47,12 @@ module _ (r line : List ℕ) (alternate : ℕ) where
     onward-normal =
         rw (written .stands, written .numbers)
         (normal-normal r (startOf line .0) (endOf line .0) (replacementAt line alternate))
+
+    -- which moves no further
+    pub onward-still : movedBy r (form .start) (form .end) (part left place (place + form .length)) ≡ still
+    onward-still =
+        rw (written .stands, written .numbers)
+        (normal-still r (startOf line .0) (endOf line .0) (replacementAt line alternate))
 
     -- and its altered sequence
     pub onward-altered : altered r (form .start) (form .end) (part left place (place + form .length))

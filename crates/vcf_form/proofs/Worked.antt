@@ -6,6 +6,7 @@ use Rattle.stretch.specs.Common.{lcp, lcs}
 use Rattle.stretch.specs.Same.{same}
 use Rattle.alphabets.specs.Alphabets.{letter, residue}
 use Rattle.normal_form.specs.Form.{altered, shorter, within, ahead, behind, kindIn, kindOf, changedForm, normal}
+use Rattle.moved.specs.Moved.{movedBy}
 use Rattle.normal_form_calls.specs.Calls.{formGrounds, normalGrounds}
 use Rattle.decimals.specs.Decimal.{decimalIn, enough, decimal}
 use Rattle.decimals.specs.Number.{valueFrom, value, numberWithin}
@@ -17,6 +18,6 @@ use Rattle.vcf_form.specs.Worked.{Case, answered, cases}
 
 pub worked-lines : map answered cases ≡ map (λ (c : Case). c .answer) cases
 unfolding vcfGrounds lineGrounds normalGrounds formGrounds parted upper lettered every firstOutside letter residue lcp
-    lcs same altered shorter within ahead behind kindIn kindOf changedForm normal valueFrom value numberWithin decimal
-    enough decimalIn
+    lcs same altered shorter within ahead behind kindIn kindOf changedForm normal movedBy valueFrom value numberWithin
+    decimal enough decimalIn
 worked-lines = refl

@@ -10,6 +10,7 @@ use Rattle.refusal.specs.Limits.{referenceLimit}
 use Rattle.refusal.specs.Verdict.{verdict}
 use Rattle.alphabets.specs.Alphabets.{letter}
 use Rattle.normal_form.specs.Form.{normal}
+use Rattle.moved.specs.Moved.{movedBy}
 use Rattle.normal_form_calls.specs.declared.Normalised.{Normalised}
 use Rattle.normal_form_calls.specs.Calls.{normalGrounds, Forms}
 use Rattle.upper_case.specs.Upper.{folded}
@@ -26,4 +27,4 @@ pub record OfLetters (r : List ℕ) (start end : ℕ) : Type 0 where
 abbrev pub FormsNamed : List ℕ → ℕ → ℕ → List ℕ → ℕ → List ℕ → ℕ → Normalised → List ℕ → Type 0
 FormsNamed r start end named alternate out place =
     Forms (verdict (noAlternate named alternate ∷ normalGrounds r start end (folded named) (length out) place))
-    (normal r start end (folded named)) out place
+    (normal r start end (folded named)) (movedBy r start end (folded named)) out place

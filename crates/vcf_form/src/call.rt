@@ -1,5 +1,6 @@
 // The alternate is looked at and written in upper case as it lies in the line.
 use fields::extent_of;
+use moved::moved_of;
 use normal_form::Stretches;
 use normal_form::form_by_agreement;
 use normal_form::reference_after;
@@ -80,7 +81,7 @@ fn lay_form(
         return Normalised::Refused(refuse(OUTPUT_TOO_SHORT, form.length));
     }
     write(reference, alternate, w, out, place as usize);
-    Normalised::Accepted(form)
+    Normalised::Accepted(form, moved_of(w))
 }
 
 // 21 and what follows it, of what is named at a place of ALT.
@@ -115,7 +116,7 @@ fn form_named(
 }
 
 // Writes the normal replacement of the alternate at a place of ALT, from 1, into `out` from `place` on, and
-// answers its form.
+// answers its form and how far it moved.
 pub fn vcf_form(
     reference: &[u8],
     line: &[u8],

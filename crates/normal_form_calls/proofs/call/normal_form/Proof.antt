@@ -32,12 +32,15 @@ returns c =
     rw (c .refuse .ensures, o .form-of .ensures)
     (no-room _ _ _ _ _ _ _ (sym (t .w .given .1) ∙ t .before .before .locate-clean .ensures) room)
 
-write-requires : tie.Need-write-requires
-write-requires c κs =
+write-form-requires : tie.Need-write-form-requires
+write-form-requires c κs =
     let o = c .before .before .before in
     let t = o .before .before in
     let room = rw (o .form-of .ensures) at (sym (c .before .before .sum-exceeds .ensures) ∙ c .before .if1 .left) in
     (clean-fits _ _ _ _ _ (sym (t .w .given .1) ∙ t .before .before .locate-clean .ensures), ltb-false _ _ room)
+
+moved-of-requires : tie.Need-moved-of-requires
+moved-of-requires c κs = search needs
 
 enum-known-why : tie.Need-enum-known-why
 enum-known-why c = search needs
@@ -47,11 +50,12 @@ same-length c = search needs
 
 returns-2 : tie.Need-returns-2
 returns-2 c =
-    let i = c .before .before .before .before in
+    let l = c .before .before .before in
+    let i = l .before .before in
     let o = i .before .before in
     let t = o .before .before in
     let room = rw (o .form-of .ensures) at (sym (i .before .sum-exceeds .ensures) ∙ i .if1 .left) in
-    rw (c .before .before .write .ensures, o .form-of .ensures)
+    rw (l .write-form .ensures .laid, o .form-of .ensures, c .moved-of .ensures)
     (formed _ _ _ _ _ _ _ (sym (t .w .given .1) ∙ t .before .before .locate-clean .ensures) room)
 
 returns-3 : tie.Need-returns-3
@@ -68,7 +72,8 @@ normal-form-spec =
     sum-exceeds-requires
     refuse-requires
     returns
-    write-requires
+    write-form-requires
+    moved-of-requires
     enum-known-why
     same-length
     returns-2

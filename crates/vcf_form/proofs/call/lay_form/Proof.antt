@@ -40,18 +40,23 @@ write-requires c κs =
     let room = rw (o .form-of .ensures) at (sym (c .before .before .sum-exceeds .ensures) ∙ c .before .if1 .left) in
     (f, ltb-false _ _ room)
 
+moved-of-requires : tie.Need-moved-of-requires
+moved-of-requires c κs = search needs
+
 same-length : tie.Need-same-length
 same-length c = search needs
 
 returns-2 : tie.Need-returns-2
 returns-2 c =
-    let i = c .before .before .before .before in
+    let l = c .before .before .before in
+    let i = l .before .before in
     let o = i .before .before in
     let n = o .before in
     let s = n .before .before .before .before in
     let f = found-fits _ _ _ _ _ (s .pre) (n .normalise .ensures) in
     let room = rw (o .form-of .ensures) at (sym (i .before .sum-exceeds .ensures) ∙ i .if1 .left) in
-    rw (c .before .before .write .ensures, o .form-of .ensures, ← n .normalise .ensures) (lays-all _ _ _ f _ _ room)
+    rw (l .write .ensures, o .form-of .ensures, c .moved-of .ensures, ← n .normalise .ensures)
+    (lays-all _ _ _ f _ _ room)
 
 pub lay-form-spec : {M : Type 1} → statement M
 lay-form-spec =
@@ -63,5 +68,6 @@ lay-form-spec =
     refuse-requires
     returns
     write-requires
+    moved-of-requires
     same-length
     returns-2)

@@ -3,10 +3,11 @@ use native.Mathlib.Omega.{arith}
 use borrow.Author.Needs.{needs}
 use borrow.Author.Tests.{le-ltb}
 use Rattle.stretch.proofs.Over.{over-tail-front}
+use Rattle.stretch.proofs.Wrote.{over-wrote}
 use Rattle.refusal.proofs.Sum.{tail-room}
 use Rattle.normal_form.proofs.Joined.{pieces-joined, pieces-long, length-joined}
-use Rattle.normal_form_calls.proofs.call.write.Statement.{statement}
-use Rattle.normal_form_calls.proofs.call.write.Tie as tie
+use Rattle.normal_form_calls.proofs.call.write_form.Statement.{statement}
+use Rattle.normal_form_calls.proofs.call.write_form.Tie as tie
 
 sub-put-three : tie.Need-sub-put-three
 sub-put-three c = search needs
@@ -34,22 +35,27 @@ put-three-requires c κs =
     let long = pieces-long _ _ _ (s .pre .0) first second (c .reference-after .ensures) in
     omega (arith, tail-room (s .args .out .now) (s .args .at) _ (le-ltb _ _ (s .pre .1)))
 
+add-result : tie.Need-add-result
+add-result c = search needs
+
 same-length : tie.Need-same-length
 same-length c = search needs
 
 returns : tie.Need-returns
 returns c =
-    let t = c .before .before .before in
+    let p = c .before .before in
+    let t = p .before in
     let s = t .before .before .before .before .before .before .before in
     let first = t .before .before .reference-before .ensures in
     let second = t .before .replacement-kept .ensures in
     let e = pieces-joined _ _ (s .args .w) first second (t .reference-after .ensures) in
+    let whole = rw e at (p .put-three .ensures) in
     let long = length-joined _ _ (s .args .w) (s .pre .0) in
-    rw (c .before .before .put-three .ensures .laid, e)
-    (over-tail-front (s .args .out .now) (s .args .at) _ (omega (arith, s .pre .1)))
+    over-wrote (s .args .out .now) (s .args .at) _ _ _ (omega (arith, s .pre .1)) (omega (arith, whole .next))
+    (rw (whole .laid) (over-tail-front (s .args .out .now) (s .args .at) _ (omega (arith, s .pre .1))))
 
-pub write-spec : {M : Type 1} → statement M
-write-spec =
+pub write-form-spec : {M : Type 1} → statement M
+write-form-spec =
     tie.close
     (tie.spec
     sub-put-three
@@ -59,5 +65,6 @@ write-spec =
     replacement-kept-requires
     reference-after-requires
     put-three-requires
+    add-result
     same-length
     returns)
