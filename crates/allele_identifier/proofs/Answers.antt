@@ -1,6 +1,6 @@
 -- What the answers of the tests tell.
 use Prim.Native.Nat.{ℕ, _+_}
-use mathlib.Core.Path.{_≡_, refl, sym, ap, subst}
+use mathlib.Core.Path.{_≡_, refl, ap, subst}
 use mathlib.Core.Bool.{true, false}
 use mathlib.Core.List.{List, [], _∷_, _++_}
 use lib.Dec.{ltb}
@@ -11,7 +11,8 @@ use Rattle.refusal.specs.declared.Refusal.{Refusal}
 use Rattle.refusal.specs.declared.Written.{Written}
 use Rattle.refusal.specs.declared.Written.the-variants.{Bytes, Refused as Unwritten}
 use Rattle.refusal.specs.Verdict.{accepted, refused, verdict}
-use Rattle.refusal.specs.Writes.{Writes}
+use Rattle.refusal.specs.Writes.{WritesUnless}
+use Rattle.refusal.proofs.Keeps.{keeps-refused, keeps-through}
 use Rattle.refusal.proofs.WritesUnless.{writes-unless-then, writes-unless-short, writes-unless-room}
 use Rattle.refusal.proofs.Writes.{writes-all}
 use Rattle.refusal.proofs.Verdict.{verdict-first, verdict-then, verdict-fewer, verdict-later, outcome-accepted}
@@ -22,14 +23,17 @@ use Rattle.normal_form.specs.declared.Stretches.{Stretches}
 use Rattle.normal_form.specs.Form.{Normal, normal}
 use Rattle.normal_form.specs.Stretches.{Fits, joined, joinedLength, stretchesOf, formIn}
 use Rattle.normal_form.proofs.Join.{stretches-fit, stretches-join}
+use Rattle.moved.specs.Moved.{movedBy, movedIn}
+use Rattle.moved.proofs.Ends.{stretches-moved}
 use Rattle.normal_form_calls.specs.declared.Located.{Located}
 use Rattle.normal_form_calls.specs.declared.Located.the-variants.{Accepted as Found, Refused as Unfound}
 use Rattle.normal_form_calls.specs.Calls.{givenGrounds, located, cleanly}
 use Rattle.normal_form_calls.proofs.Answers.{tell-accepted, tell-refused, given-allele, located-form}
-use Rattle.allele_identifier.specs.Identifier.{textOf, identifierOf, aroundSequence, alleleIdentifierLength}
+use Rattle.allele_identifier.specs.declared.Identified.the-variants.{Refused as Unnamed}
+use Rattle.allele_identifier.specs.Identifier.{textOf, identifierOf, aroundSequence}
 use Rattle.allele_identifier.specs.Calls.{alleleGrounds, WritesAllele, IdentifiesAllele}
-use Rattle.allele_identifier.specs.Inner.{alleleAnswer, restAnswer}
-use Rattle.allele_identifier.proofs.Hashing.{allele-long, length-allele-identifier}
+use Rattle.allele_identifier.specs.Inner.{alleleAnswer, restAnswer, identified}
+use Rattle.allele_identifier.proofs.Hashing.{allele-long}
 
 -- 5 after 7
 module _ (r x digest : List ℕ) (w : Stretches) where
@@ -120,28 +124,27 @@ module _ (r : List ℕ) (start end : ℕ) (x digest : List ℕ) where
           (writes-unless-room _ out place n text-long (Bytes n) left t
           (writes-all accepted _ out place n left refl text-long e))
 
-      -- and the identifier
-      pub identifier-short : (answer : Written)
-          → answer ≡ Unwritten (record { number = 6; value = alleleIdentifierLength })
-          → ltb (length out) (place + alleleIdentifierLength) ≡ true
-          → IdentifiesAllele r start end x digest out place answer out
-      identifier-short answer a t =
-          writes-unless-then _ _ out place answer out allele-accepted
-          (writes-unless-short _ out place alleleIdentifierLength
-          (sym (length-allele-identifier (normal r start end x) digest)) answer a t)
+    -- and the identifier, with how far the form moved
+    pub allele-moved : movedIn w ≡ movedBy r start end x
+    allele-moved = rw (found .1) (stretches-moved r start end x (given-allele r start end x given))
 
-      pub identifier-written : (answer : Written) (left : List ℕ)
-          → ltb (length out) (place + alleleIdentifierLength) ≡ false
-          → Writes accepted (identifierOf (formIn r x w) digest) out place answer left
-          → IdentifiesAllele r start end x digest out place answer left
-      identifier-written answer left t p =
-          writes-unless-then _ _ out place answer left allele-accepted
-          (writes-unless-room _ out place alleleIdentifierLength
-          (sym (length-allele-identifier (normal r start end x) digest)) answer left
-          t
-          (subst (λ (f : Normal). Writes accepted (identifierOf f digest) out place answer left) allele-form p))
+    pub identifies-form : (out : List ℕ) (place : ℕ) (answer : Written) (left : List ℕ)
+        → WritesUnless [] (identifierOf (formIn r x w) digest) out place answer left
+        → IdentifiesAllele r start end x digest out place (identified (movedIn w) answer) left
+    unfolding IdentifiesAllele WritesUnless
+    identifies-form out place answer left p =
+        rw allele-moved
+        (keeps-through Unwritten Unnamed (identified (movedBy r start end x)) (λ why. refl) _ _ out _ answer left
+        (writes-unless-then (alleleGrounds r start end x digest) _ out place answer left allele-accepted
+        (subst (λ (f : Normal). WritesUnless [] (identifierOf f digest) out place answer left) allele-form p)))
 
   pub allele-refused : (why : Refusal) → Unfound why ≡ alleleAnswer r start end x digest
       → verdict (alleleGrounds r start end x digest) ≡ refused why
   unfolding alleleAnswer
   allele-refused why e = tell-refused (verdict (alleleGrounds r start end x digest)) why (stretchesOf r start end x) e
+
+  pub identifies-nothing : (why : Refusal) (out : List ℕ) (place : ℕ) → Unfound why ≡ alleleAnswer r start end x digest
+      → IdentifiesAllele r start end x digest out place (Unnamed why) out
+  unfolding IdentifiesAllele
+  identifies-nothing why out place e =
+      keeps-refused _ _ _ _ _ why (verdict-first (alleleGrounds r start end x digest) _ why (allele-refused why e))

@@ -1,9 +1,12 @@
 // The text and the identifier of an allele, in its normal form.
+use super::Identified;
 use super::hash::form_hash;
 use alphabets::DIGEST_LENGTH;
 use alphabets::check_digest_text;
 use digest_text::place_identifier;
 use location_identifier::location_digest;
+use moved::Moved;
+use moved::moved_of;
 use normal_form::Stretches;
 use normal_form::joined_length;
 use normal_form::reference_after;
@@ -20,14 +23,16 @@ use refusal::sum_exceeds;
 use text::ALLELE_WORDS;
 use text::write_allele;
 ghost use mathlib.Core.Path.{_≡_};
+ghost use mathlib.Core.List.{[]};
 ghost use Prim.Native.Nat.{_+_, _≤_};
 ghost use lib.ListN.{length};
 ghost use Rattle.stretch.specs.Over.{over};
+ghost use Rattle.refusal.specs.Writes.{WritesUnless};
 ghost use Rattle.alphabets.specs.Alphabets.{digestLength};
 ghost use Rattle.normal_form.specs.Stretches.{Fits, joinedLength, formIn};
-ghost use Rattle.allele_identifier.specs.Identifier.{aroundSequence, textOf};
+ghost use Rattle.allele_identifier.specs.Identifier.{aroundSequence, textOf, identifierOf};
 ghost use Rattle.allele_identifier.specs.Calls.{WritesAllele, IdentifiesAllele};
-ghost use Rattle.allele_identifier.specs.Inner.{alleleAnswer, restAnswer};
+ghost use Rattle.allele_identifier.specs.Inner.{alleleAnswer, restAnswer, identified};
 
 const ALLELE_PREFIX: [u8; 9] = *b"ga4gh:VA.";
 
@@ -117,7 +122,40 @@ pub fn allele_text(
     }
 }
 
-// Writes the identifier of the allele's normal form into `out` from `place` on.
+// 6 alone, and the identifier of the form that the stretches hold.
+fn identify_form(
+    reference: &[u8],
+    replacement: &[u8],
+    digest: &[u8],
+    w: Stretches,
+    out: &mut [u8],
+    place: u64,
+) -> Written
+    requires { ⌜ Fits (now reference) (now replacement) w ⌝ }
+    requires { ⌜ length (now digest) ≡ digestLength ⌝ }
+    ensures { λ r. ⌜
+        WritesUnless []
+        (identifierOf (formIn (now (reference .entry)) (now (replacement .entry)) w) (now (digest .entry)))
+        (now (out .entry)) place r (now (out .exit)) ⌝ }
+{
+    if sum_exceeds(place, IDENTIFIER_LENGTH, out.len() as u64) {
+        return Written::Refused(refuse(OUTPUT_TOO_SHORT, IDENTIFIER_LENGTH));
+    }
+    let hash = form_hash(reference, replacement, digest, w);
+    place_identifier(out, place, &ALLELE_PREFIX, &hash)
+}
+
+// What was written, with how far the form moved.
+fn beside(written: Written, moved: Moved) -> Identified
+    ensures { λ r. ⌜ r ≡ identified moved written ⌝ }
+{
+    match written {
+        Written::Bytes(length) => Identified::Bytes(length, moved),
+        Written::Refused(why) => Identified::Refused(why),
+    }
+}
+
+// Writes the identifier of the allele's normal form into `out` from `place` on, and answers how far it moved.
 pub fn allele_identifier(
     reference: &[u8],
     start: u64,
@@ -126,19 +164,16 @@ pub fn allele_identifier(
     digest: &[u8],
     out: &mut [u8],
     place: u64,
-) -> Written
+) -> Identified
     ensures { λ r. ⌜
         IdentifiesAllele (now (reference .entry)) start end (now (replacement .entry)) (now (digest .entry))
         (now (out .entry)) place r (now (out .exit)) ⌝ }
 {
     match check_allele(reference, start, end, replacement, digest) {
         Located::Accepted(w) => {
-            if sum_exceeds(place, IDENTIFIER_LENGTH, out.len() as u64) {
-                return Written::Refused(refuse(OUTPUT_TOO_SHORT, IDENTIFIER_LENGTH));
-            }
-            let hash = form_hash(reference, replacement, digest, w);
-            place_identifier(out, place, &ALLELE_PREFIX, &hash)
+            let written = identify_form(reference, replacement, digest, w, out, place);
+            beside(written, moved_of(w))
         }
-        Located::Refused(why) => Written::Refused(why),
+        Located::Refused(why) => Identified::Refused(why),
     }
 }

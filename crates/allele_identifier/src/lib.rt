@@ -7,3 +7,9 @@ mod hash;
 
 pub use allele::allele_identifier;
 pub use allele::allele_text;
+
+// The answer of an allele's identifier: the count of bytes written, and how far the normal form moved.
+pub enum Identified {
+    Bytes(u64, moved::Moved),
+    Refused(refusal::Refusal),
+}

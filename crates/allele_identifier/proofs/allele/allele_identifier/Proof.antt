@@ -1,14 +1,7 @@
--- The tests, 6 after them, and the identifier of the text's hash.
-use native.Mathlib.Omega.{arith}
-use mathlib.Core.Path.{_≡_, _∙_, sym}
-use lib.ListN.{length}
-use borrow.Author.Tests.{ltb-false}
+-- The tests, and the identifier after them; a refusal is handed on.
+use mathlib.Core.Path.{_∙_, sym}
 use borrow.Author.Needs.{needs}
-use Rattle.refusal.proofs.WritesUnless.{writes-unless-refused}
-use Rattle.digest_text.specs.Digest.{sha512t24u}
-use Rattle.allele_identifier.specs.Identifier.{identifierOf}
-use Rattle.allele_identifier.proofs.Answers.{allele-digest, allele-fits, allele-refused}
-use Rattle.allele_identifier.proofs.Answers.{identifier-short, identifier-written}
+use Rattle.allele_identifier.proofs.Answers.{allele-digest, allele-fits, identifies-form, identifies-nothing}
 use Rattle.allele_identifier.proofs.allele.allele_identifier.Statement.{statement}
 use Rattle.allele_identifier.proofs.allele.allele_identifier.Tie as tie
 
@@ -18,36 +11,17 @@ check-allele-requires c κs = search needs
 enum-known-w : tie.Need-enum-known-w
 enum-known-w c = search needs
 
-sum-exceeds-requires : tie.Need-sum-exceeds-requires
-sum-exceeds-requires c κs = search needs
-
-refuse-requires : tie.Need-refuse-requires
-refuse-requires c κs = search needs
-
-returns : tie.Need-returns
-returns c =
-    let t = c .before .before .before .before in
-    let e = sym (t .w .given .1) ∙ t .before .before .check-allele .ensures in
-    let room = sym (c .before .before .sum-exceeds .ensures) ∙ c .before .if1 .taken in
-    identifier-short _ _ _ _ _ _ e _ _ _ (rw (c .refuse .ensures)) room
-
-form-hash-requires : tie.Need-form-hash-requires
-form-hash-requires c κs =
-    let t = c .before .before .before in
+identify-form-requires : tie.Need-identify-form-requires
+identify-form-requires c κs =
+    let t = c .before .before in
     let e = sym (t .w .given .1) ∙ t .before .before .check-allele .ensures in
     (allele-fits _ _ _ _ _ _ e, allele-digest _ _ _ _ _ _ e)
 
-slice-aggregate-place-identifier : tie.Need-slice-aggregate-place-identifier
-slice-aggregate-place-identifier c = search needs
+moved-of-requires : tie.Need-moved-of-requires
+moved-of-requires c κs = search needs
 
-slice-aggregate-place-identifier-2 : tie.Need-slice-aggregate-place-identifier-2
-slice-aggregate-place-identifier-2 c = search needs
-
-place-identifier-requires : tie.Need-place-identifier-requires
-place-identifier-requires c κs =
-    let h = c .before .before .before in
-    let long : length (h .form-hash .result) ≡ 64 = search needs in
-    (ltb-false _ _ (sym (h .before .before .sum-exceeds .ensures) ∙ h .before .if1 .left), omega arith)
+beside-requires : tie.Need-beside-requires
+beside-requires c κs = search needs
 
 enum-known-why : tie.Need-enum-known-why
 enum-known-why c = search needs
@@ -55,21 +29,18 @@ enum-known-why c = search needs
 same-length : tie.Need-same-length
 same-length c = search needs
 
-returns-2 : tie.Need-returns-2
-unfolding identifierOf sha512t24u
-returns-2 c =
-    let h = c .before .before .before .before .before .before in
-    let t = h .before .before .before .before in
+returns : tie.Need-returns
+returns c =
+    let i = c .before .before .before .before in
+    let t = i .before .before .before in
     let e = sym (t .w .given .1) ∙ t .before .before .check-allele .ensures in
-    let room = sym (h .before .before .sum-exceeds .ensures) ∙ h .before .if1 .left in
-    identifier-written _ _ _ _ _ _ e _ _ _ _ room
-    (rw (← h .form-hash .ensures) (c .before .before .place-identifier .ensures))
+    rw (c .beside .ensures, c .before .moved-of .ensures)
+    (identifies-form _ _ _ _ _ _ e _ _ _ _ (i .identify-form .ensures))
 
-returns-3 : tie.Need-returns-3
-returns-3 c =
-    let t = c .before in
-    let e = sym (t .why .given .1) ∙ t .before .before .check-allele .ensures in
-    writes-unless-refused _ _ _ _ _ (allele-refused _ _ _ _ _ _ e)
+returns-2 : tie.Need-returns-2
+returns-2 c =
+    identifies-nothing _ _ _ _ _ _ _ _
+    (sym (c .before .why .given .1) ∙ c .before .before .before .check-allele .ensures)
 
 pub allele-identifier-spec : {M : Type 1} → statement M
 allele-identifier-spec =
@@ -77,14 +48,10 @@ allele-identifier-spec =
     (tie.spec
     check-allele-requires
     enum-known-w
-    sum-exceeds-requires
-    refuse-requires
-    returns
-    form-hash-requires
-    slice-aggregate-place-identifier
-    slice-aggregate-place-identifier-2
-    place-identifier-requires
+    identify-form-requires
+    moved-of-requires
+    beside-requires
     enum-known-why
     same-length
-    returns-2
-    returns-3)
+    returns
+    returns-2)
