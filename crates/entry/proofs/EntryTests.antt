@@ -17,6 +17,8 @@ use Rattle.normal_form.specs.declared.Stretches.{Stretches}
 use Rattle.normal_form.specs.Form.{Normal, normal, altered, shorter, kindOf, kindIn}
 use Rattle.normal_form.specs.Stretches.{Fits, stretchesOf, asGiven, changedStretches, spread, formIn}
 use Rattle.normal_form.proofs.Join.{stretches-fit, stretches-join}
+use Rattle.moved.specs.Moved.{movedBy, movedIn}
+use Rattle.moved.proofs.Ends.{stretches-moved}
 use Rattle.normal_form_calls.specs.declared.Located.{Located}
 use Rattle.normal_form_calls.specs.declared.Located.the-variants.{Accepted as Found, Refused as Unfound}
 use Rattle.normal_form_calls.specs.Calls.{formGrounds, locatedClean}
@@ -78,13 +80,16 @@ module _ (r : List ℕ) (start end : ℕ) (x : List ℕ) where
     form : formIn r x w ≡ normal r start end x
     form = rw (told .1) (stretches-join r start end x (clean-allele r start end x clean))
 
-    pub enters-allele : (b : List ℕ) (answer : Entered) (left : List ℕ) → EntersForm b (formIn r x w) answer left
-        → EntersAllele b r start end x answer left
+    by : movedIn w ≡ movedBy r start end x
+    by = rw (told .1) (stretches-moved r start end x (clean-allele r start end x clean))
+
+    pub enters-allele : (b : List ℕ) (answer : Entered) (left : List ℕ)
+        → EntersForm b (formIn r x w) (movedIn w) answer left → EntersAllele b r start end x answer left
     unfolding EntersForm EntersAllele
     enters-allele b answer left p =
         let room = roomGrounds b (normal r start end x) (found b (normal r start end x)) in
         keeps-as _ _ _ _ _ (verdict room) _ _ (verdict-then (changeGrounds r start end x) room (told .0))
-        (subst (λ (g : Normal). EntersAs b g (found b g) answer left) form p)
+        (subst (λ (g : Normal). EntersAs b g (movedBy r start end x) (found b g) answer left) form (rw by at p))
 
   pub enters-no-allele : (b : List ℕ) (why : Refusal) → Unfound why ≡ changeAnswer r start end x
       → EntersAllele b r start end x (Unentered why) b

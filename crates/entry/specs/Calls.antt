@@ -4,6 +4,7 @@ use mathlib.Core.List.{List, [], _∷_, _++_}
 use Rattle.stretch.specs.Same.{same}
 use Rattle.refusal.specs.Verdict.{Ground, ground, verdict}
 use Rattle.normal_form.specs.Form.{altered, normal}
+use Rattle.moved.specs.Moved.{movedBy}
 use Rattle.normal_form_calls.specs.Calls.{formGrounds}
 use Rattle.refusal.specs.Keeps.{Keeps}
 use Rattle.changes.specs.Grounds.{notWellFormed, otherDigest, otherLength}
@@ -34,4 +35,5 @@ entryGrounds b digest r start end x =
 unfoldable pub Enters : List ℕ → List ℕ → List ℕ → ℕ → ℕ → List ℕ → Entered → List ℕ → Type 0
 Enters b digest r start end x =
     let f = normal r start end x in
-    Keeps Refused (verdict (entryGrounds b digest r start end x)) (answerOf (found b f)) b (entered b f (found b f))
+    let m = movedBy r start end x in
+    Keeps Refused (verdict (entryGrounds b digest r start end x)) (answerOf (found b f) m) b (entered b f (found b f))

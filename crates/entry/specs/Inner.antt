@@ -9,6 +9,7 @@ use Rattle.normal_form.specs.declared.Kind.{Kind}
 use Rattle.normal_form.specs.declared.Kind.the-variants.{Unchanged, Substitution, Indel}
 use Rattle.normal_form.specs.Form.{normal}
 use Rattle.normal_form.specs.Stretches.{stretchesOf}
+use Rattle.moved.specs.Moved.{movedBy}
 use Rattle.normal_form_calls.specs.declared.Located.{Located}
 use Rattle.normal_form_calls.specs.declared.Located.the-variants.{Accepted as Found, Refused as Unfound}
 use Rattle.refusal.specs.Keeps.{Keeps}
@@ -35,5 +36,6 @@ changeAnswer r start end x = tell Unfound (verdict (changeGrounds r start end x)
 unfoldable pub EntersAllele : List ℕ → List ℕ → ℕ → ℕ → List ℕ → Entered → List ℕ → Type 0
 EntersAllele b r start end x =
     let f = normal r start end x in
-    Keeps Unentered (verdict (changeGrounds r start end x ++ roomGrounds b f (found b f))) (answerOf (found b f)) b
+    let m = movedBy r start end x in
+    Keeps Unentered (verdict (changeGrounds r start end x ++ roomGrounds b f (found b f))) (answerOf (found b f) m) b
     (entered b f (found b f))

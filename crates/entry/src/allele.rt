@@ -6,6 +6,7 @@ use image::HEADER_SIZE;
 use image::REFERENCE_LENGTH_AT;
 use image::read_number;
 use image::well_formed;
+use moved::moved_of;
 use normal_form::Kind;
 use normal_form::Stretches;
 use normal_form::reference_after;
@@ -23,6 +24,7 @@ use stretch::equal;
 ghost use mathlib.Core.Path.{_≡_};
 ghost use mathlib.Core.Bool.{true};
 ghost use Rattle.normal_form.specs.Stretches.{Fits, formIn};
+ghost use Rattle.moved.specs.Moved.{movedIn};
 ghost use Rattle.image.specs.Formed.{wellFormed};
 ghost use Rattle.image.specs.Header.{Header};
 ghost use Rattle.form_entry.specs.Calls.{EntersForm};
@@ -77,12 +79,13 @@ fn enter_stretches(image: &mut [u8], reference: &[u8], replacement: &[u8], w: St
     requires { ⌜ wellFormed (now image) ≡ true ⌝ }
     requires { ⌜ Fits (now reference) (now replacement) w ⌝ }
     ensures { λ r. ⌜
-        EntersForm (now (image .entry)) (formIn (now (reference .entry)) (now (replacement .entry)) w) r
+        EntersForm (now (image .entry)) (formIn (now (reference .entry)) (now (replacement .entry)) w) (movedIn w) r
         (now (image .exit)) ⌝ }
 {
     enter_form(
         image,
         form_of(w),
+        moved_of(w),
         reference_before(reference, w),
         replacement_kept(replacement, w),
         reference_after(reference, w),

@@ -5,6 +5,7 @@ use mathlib.Core.Path.{_≡_}
 use mathlib.Core.List.{List}
 use borrow.Author.Tests.{ne-eqb}
 use Rattle.normal_form.specs.Form.{Normal}
+use Rattle.moved.specs.declared.Moved.{Moved}
 use Rattle.image.specs.Fields.{issued, active, inactive}
 use Rattle.form_entry.specs.declared.Entered.{Entered}
 use Rattle.lookup.specs.Lookup.{lowestHolding}
@@ -26,7 +27,7 @@ module _ (b : List ℕ) (f : Normal) where
     found-new e = rw (none, e)
 
 -- a form found so
-pub enters-as : (b : List ℕ) (f : Normal) (g : Found) (answer : Entered) (left : List ℕ)
-    → found b f ≡ g → EntersAs b f g answer left → EntersForm b f answer left
+pub enters-as : (b : List ℕ) (f : Normal) (m : Moved) (g : Found) (answer : Entered) (left : List ℕ)
+    → found b f ≡ g → EntersAs b f m g answer left → EntersForm b f m answer left
 unfolding EntersForm
-enters-as b f g answer left e p = rw e p
+enters-as b f m g answer left e p = rw e p

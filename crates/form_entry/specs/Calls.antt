@@ -4,6 +4,7 @@ use mathlib.Core.List.{List, [], _∷_}
 use lib.ListN.{length}
 use Rattle.refusal.specs.Verdict.{Ground, verdict}
 use Rattle.normal_form.specs.Form.{Normal}
+use Rattle.moved.specs.declared.Moved.{Moved}
 use Rattle.refusal.specs.Keeps.{Keeps}
 use Rattle.changes.specs.Grounds.{noFreeRecord, noPoolRoom, noJournalRoom}
 use Rattle.form_entry.specs.declared.Entered.{Entered}
@@ -21,9 +22,9 @@ roomGrounds b f (again under i) = noJournalRoom b ∷ []
 roomGrounds b f (known under i) = []
 
 -- the entry of a form that was found so
-abbrev pub EntersAs : List ℕ → Normal → Found → Entered → List ℕ → Type 0
-EntersAs b f g = Keeps Refused (verdict (roomGrounds b f g)) (answerOf g) b (entered b f g)
+abbrev pub EntersAs : List ℕ → Normal → Moved → Found → Entered → List ℕ → Type 0
+EntersAs b f m g = Keeps Refused (verdict (roomGrounds b f g)) (answerOf g m) b (entered b f g)
 
--- a form that has passed its tests
-unfoldable pub EntersForm : List ℕ → Normal → Entered → List ℕ → Type 0
-EntersForm b f = EntersAs b f (found b f)
+-- a form that has passed its tests, and moved so far
+unfoldable pub EntersForm : List ℕ → Normal → Moved → Entered → List ℕ → Type 0
+EntersForm b f m = EntersAs b f m (found b f)

@@ -4,6 +4,7 @@ use mathlib.Core.Bool.{cond}
 use mathlib.Core.List.{List}
 use lib.Dec.{eqb}
 use Rattle.normal_form.specs.Form.{Normal}
+use Rattle.moved.specs.declared.Moved.{Moved}
 use Rattle.image.specs.Fields.{issued, active, inactive}
 use Rattle.lookup.specs.Lookup.{lowestHolding}
 use Rattle.changes.specs.Changes.{numbered, reentered}
@@ -28,11 +29,11 @@ found b f =
     (cond (eqb (lowestHolding b inactive f) 0) (new under (issued b + 1)) (again under lowestHolding b inactive f))
     (known under lowestHolding b active f)
 
--- what an accepted entry answers
-abbrev pub answerOf : Found → Entered
-answerOf (new under i) = New i
-answerOf (again under i) = Again i
-answerOf (known under i) = Known i
+-- what an accepted entry answers, of a form that moved so far
+abbrev pub answerOf : Found → Moved → Entered
+answerOf (new under i) m = New i m
+answerOf (again under i) m = Again i m
+answerOf (known under i) m = Known i m
 
 -- and leaves
 abbrev pub entered : List ℕ → Normal → Found → List ℕ

@@ -12,6 +12,7 @@ use image::POOL_USED_AT;
 use image::RECORD_CAPACITY_AT;
 use image::read_number;
 use lookup::lowest_holding;
+use moved::Moved;
 use normal_form_calls::Form;
 use refusal::NO_FREE_RECORD;
 use refusal::NO_JOURNAL_ROOM;
@@ -66,56 +67,63 @@ fn check_new(image: &[u8], residues: u64) -> Outcome
 }
 
 // Makes a number active again.
-fn reenter(image: &mut [u8], number: usize) -> Entered
+fn reenter(image: &mut [u8], number: usize, moved: Moved) -> Entered
     requires { ⌜ Header (now image) ⌝ }
     requires { ⌜ (1 ≤ number) × (number ≤ issued (now image)) ⌝ }
     ensures { λ r. ⌜
-        Keeps Refused (verdict (noJournalRoom (now (image .entry)) ∷ [])) (Again number) (now (image .entry))
+        Keeps Refused (verdict (noJournalRoom (now (image .entry)) ∷ [])) (Again number moved) (now (image .entry))
         (reentered (now (image .entry)) number) r (now (image .exit)) ⌝ }
 {
     match check_again(image) {
         Outcome::Accepted => {
             change(image, number, ACTIVE);
-            Entered::Again(number as u64)
+            Entered::Again(number as u64, moved)
         }
         Outcome::Refused(why) => Entered::Refused(why),
     }
 }
 
 // Gives a form the next number.
-fn enter_new(image: &mut [u8], form: Form, a: &[u8], b: &[u8], c: &[u8]) -> Entered
+fn enter_new(image: &mut [u8], form: Form, moved: Moved, a: &[u8], b: &[u8], c: &[u8]) -> Entered
     requires { ⌜ Header (now image) ⌝ }
     requires { ⌜ form .length ≡ length (now a) + (length (now b) + length (now c)) ⌝ }
     ensures { λ r. ⌜
-        EntersAs (now (image .entry)) (asked form (now (a .entry)) (now (b .entry)) (now (c .entry)))
+        EntersAs (now (image .entry)) (asked form (now (a .entry)) (now (b .entry)) (now (c .entry))) moved
         (new under (issued (now (image .entry)) + 1)) r (now (image .exit)) ⌝ }
 {
     match check_new(image, form.length) {
         Outcome::Accepted => {
-            let issued = read_number(image, ISSUED_AT);
+            let number = read_number(image, ISSUED_AT) as u64 + 1;
             number_form(image, form, a, b, c);
-            Entered::New(issued as u64 + 1)
+            Entered::New(number, moved)
         }
         Outcome::Refused(why) => Entered::Refused(why),
     }
 }
 
-// "Known", else "again", else "new".
-pub fn enter_form(image: &mut [u8], form: Form, a: &[u8], b: &[u8], c: &[u8]) -> Entered
+// "Known", else "again", else "new"; how far the form moved is handed on.
+pub fn enter_form(
+    image: &mut [u8],
+    form: Form,
+    moved: Moved,
+    a: &[u8],
+    b: &[u8],
+    c: &[u8],
+) -> Entered
     requires { ⌜ Header (now image) ⌝ }
     requires { ⌜ wellFormed (now image) ≡ true ⌝ }
     requires { ⌜ form .length ≡ length (now a) + (length (now b) + length (now c)) ⌝ }
     ensures { λ r. ⌜
-        EntersForm (now (image .entry)) (asked form (now (a .entry)) (now (b .entry)) (now (c .entry))) r
+        EntersForm (now (image .entry)) (asked form (now (a .entry)) (now (b .entry)) (now (c .entry))) moved r
         (now (image .exit)) ⌝ }
 {
     let known = lowest_holding(image, ACTIVE, form, a, b, c);
     if 0 < known {
-        return Entered::Known(known as u64);
+        return Entered::Known(known as u64, moved);
     }
     let again = lowest_holding(image, INACTIVE, form, a, b, c);
     if 0 < again {
-        return reenter(image, again);
+        return reenter(image, again, moved);
     }
-    enter_new(image, form, a, b, c)
+    enter_new(image, form, moved, a, b, c)
 }

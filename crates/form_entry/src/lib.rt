@@ -7,10 +7,10 @@ mod form;
 
 pub use form::enter_form;
 
-// The answer of an entry: how the allele was found, and its number.
+// The answer of an entry: how the allele was found, its number, and how far its normal form moved.
 pub enum Entered {
-    New(u64),
-    Again(u64),
-    Known(u64),
+    New(u64, moved::Moved),
+    Again(u64, moved::Moved),
+    Known(u64, moved::Moved),
     Refused(refusal::Refusal),
 }

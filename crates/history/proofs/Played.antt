@@ -13,6 +13,7 @@ use Rattle.image.specs.Numbers.{little, bytes, number, numbers, put}
 use Rattle.image.specs.Fields.{recordSize, journalPlace, poolPlace, headerOf, recordPlace, recordOf, replacementOf}
 use Rattle.image.specs.Formed.{laidOut, countsWithin, withinLimits, headerFormed, lengths, recordGood, entryGood}
 use Rattle.image.specs.Formed.{wellFormed}
+use Rattle.moved.specs.Moved.{movedBy}
 use Rattle.form_entry.specs.declared.Entered.the-variants.{New, Again, Known}
 use Rattle.register.specs.declared.Undone.the-variants.{Number}
 use Rattle.lookup.specs.Lookup.{holds, lowest, lowestHolding}
@@ -29,7 +30,7 @@ use Rattle.history.specs.Example.{blank, one, oneUndone, two, oneAgain, 
 pub worked-register : Played
 unfolding below lcp lcs over same
     residue letter base64url every firstOutside digestTextGrounds
-    altered shorter within ahead behind kindIn kindOf changedForm normal formGrounds
+    altered shorter within ahead behind kindIn kindOf changedForm normal movedBy formGrounds
     little bytes number numbers put
     recordSize journalPlace poolPlace headerOf recordPlace recordOf replacementOf
     laidOut countsWithin withinLimits headerFormed lengths recordGood entryGood wellFormed
@@ -55,11 +56,11 @@ worked-register =
 pub worked-run : Run reference blank events closed
 worked-run =
     no-calls
-    then enters digest 4 4 _ (New 1) (worked-register .case-1)
+    then enters digest 4 4 _ (New 1 _) (worked-register .case-1)
     then undoes (Number 1) (worked-register .undone-1)
-    then enters digest 2 3 _ (New 2) (worked-register .case-4)
-    then enters digest 1 2 _ (Again 1) (worked-register .case-2)
+    then enters digest 2 3 _ (New 2 _) (worked-register .case-4)
+    then enters digest 1 2 _ (Again 1 _) (worked-register .case-2)
     then enters digest 3 5 _ _ (worked-register .case-6)
-    then enters digest 1 5 _ (Known 2) (worked-register .case-5)
+    then enters digest 1 5 _ (Known 2 _) (worked-register .case-5)
     then withdraws 1 Accepted (worked-register .withdrawn-1)
     then seals Accepted (worked-register .sealed-all)

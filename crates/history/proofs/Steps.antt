@@ -15,6 +15,7 @@ use Rattle.stretch.specs.Class.{every}
 use Rattle.alphabets.proofs.Foreign.{foreign-le, foreign-none}
 use Rattle.normal_form.specs.Form.{Allele, Normal, altered, normal}
 use Rattle.normal_form.proofs.Laws.{normal-ordered, normal-inside}
+use Rattle.moved.specs.declared.Moved.{Moved}
 use Rattle.normal_form_calls.specs.Calls.{givenGrounds, formGrounds}
 use Rattle.normal_form_calls.proofs.Answers.{clean-allele}
 use Rattle.image.specs.Fields.{issued, recordCapacity, journalCount, journalCapacity, poolUsed, poolCapacity}
@@ -243,10 +244,11 @@ module _ (r b : List ℕ) (state : State r b) where
             };
           }
 
-    entry-step : Finding b f → Step r b (entryEvent t (answerOf (found b f))) (entered b f (found b f))
-    entry-step (active-as i e m) = rw e (known-step i m)
-    entry-step (withdrawn-as i e m) = rw e (again-step i e m)
-    entry-step (nowhere e none-active none-inactive) = rw e (new-step e none-active none-inactive)
+    entry-step : (by : Moved) → Finding b f
+        → Step r b (entryEvent t (answerOf (found b f) by)) (entered b f (found b f))
+    entry-step by (active-as i e m) = rw e (known-step i m)
+    entry-step by (withdrawn-as i e m) = rw e (again-step i e m)
+    entry-step by (nowhere e none-active none-inactive) = rw e (new-step e none-active none-inactive)
 
   -- an accepted call makes its step, and a refused one leaves all as it was
   by-verdict : {A : Type 0} {refuses : Refusal → A} {v : Verdict} {said answer : A} {changed left : List ℕ}
@@ -262,7 +264,7 @@ module _ (r b : List ℕ) (state : State r b) where
   unfolding Enters Withdraws Undoes Seals
   call-step (enters digest start end x answer p) =
       by-verdict (entryEvent (altered r start end x)) (λ why. refl) p
-      (λ v. entry-step start end x (accepted-enterable b digest r start end x v)
+      (λ v. entry-step start end x (accepted-enterable b digest r start end x v) _
       (found-finding b (normal r start end x)))
   call-step (withdraws i answer p) =
       by-verdict (outcomeEvent (withdrawal i)) (λ why. refl) p (λ v. withdrawn-step i (accepted-withdrawable b i v))

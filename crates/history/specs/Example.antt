@@ -7,6 +7,7 @@ use lib.ListN.{replicate}
 use Rattle.stretch.specs.Ascii.{ascii}
 use Rattle.refusal.specs.declared.Outcome.the-variants.{Accepted}
 use Rattle.normal_form.specs.Form.{altered, normal}
+use Rattle.moved.specs.Moved.{by}
 use Rattle.form_entry.specs.declared.Entered.{Entered}
 use Rattle.form_entry.specs.declared.Entered.the-variants.{New, Again, Known, Refused}
 use Rattle.form_entry.specs.Found.{new, again, known}
@@ -56,12 +57,12 @@ Entry b start end x = Enters b digest reference start end (ascii x)
 -- each call, its answer and the image that it leaves
 pub record Played : Type 0 where
   pub first : Blanks room 11 digest 2 3 15 Accepted blank
-  pub case-1 : Entry blank 4 4 "CAG" (New 1) one
+  pub case-1 : Entry blank 4 4 "CAG" (New 1 (by 3 0 6 0)) one
   pub undone-1 : Undoes one (Number 1) oneUndone
-  pub case-4 : Entry oneUndone 2 3 "T" (New 2) two
-  pub case-2 : Entry two 1 2 "CAGC" (Again 1) oneAgain
+  pub case-4 : Entry oneUndone 2 3 "T" (New 2 (by 0 0 0 0)) two
+  pub case-2 : Entry two 1 2 "CAGC" (Again 1 (by 0 0 8 0)) oneAgain
   pub case-6 : Entry oneAgain 3 5 "TTT" (Refused (record { number = 13; value = 2 })) oneAgain
-  pub case-5 : Entry oneAgain 1 5 "CTGC" (Known 2) oneAgain
+  pub case-5 : Entry oneAgain 1 5 "CTGC" (Known 2 (by 0 1 0 2)) oneAgain
   pub withdrawn-1 : Withdraws oneAgain 1 Accepted oneWithdrawn
   pub sealed-all : Seals oneWithdrawn Accepted closed
 

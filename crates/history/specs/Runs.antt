@@ -15,9 +15,9 @@ use Rattle.history.specs.Events.{Event, entry, withdrawal, undo, seal, r
 
 -- what an answer is in the history
 abbrev pub entryEvent : List ℕ → Entered → Event
-entryEvent t (New i) = entry new i t
-entryEvent t (Again i) = entry again i t
-entryEvent t (Known i) = entry known i t
+entryEvent t (New i m) = entry new i t
+entryEvent t (Again i m) = entry again i t
+entryEvent t (Known i m) = entry known i t
 entryEvent t (Unentered r) = refusal
 
 abbrev pub undoEvent : Undone → Event

@@ -15,7 +15,7 @@ same-length c = search needs
 
 returns : tie.Need-returns
 returns c =
-    enters-as _ _ _ _ _ (found-known _ _ _ (c .before .lowest-holding .ensures .0) (c .if1 .taken))
+    enters-as _ _ _ _ _ _ (found-known _ _ _ (c .before .lowest-holding .ensures .0) (c .if1 .taken))
     (keeps-accepted _ _ _ _ _ _ _ refl refl refl)
 
 lowest-holding-requires-2 : tie.Need-lowest-holding-requires-2
@@ -31,7 +31,7 @@ returns-2 : tie.Need-returns-2
 returns-2 c =
     let c₄ = c .before .before .before .before in
     let c₈ = c₄ .before .before .before .before in
-    enters-as _ _ _ _ _
+    enters-as _ _ _ _ _ _
     (found-again _ _ (omega (
       arith,
       c₈ .lowest-holding .ensures .0,
@@ -50,7 +50,7 @@ returns-3 : tie.Need-returns-3
 returns-3 c =
     let c₄ = c .before .before .before .before in
     let c₈ = c₄ .before .before .before .before in
-    enters-as _ _ _ _ _
+    enters-as _ _ _ _ _ _
     (found-new _ _ (omega (
       arith,
       c₈ .lowest-holding .ensures .0,

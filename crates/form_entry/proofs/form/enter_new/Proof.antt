@@ -19,14 +19,14 @@ enum-told c = search needs
 read-number-requires : tie.Need-read-number-requires
 read-number-requires c κs = search needs
 
+add-number : tie.Need-add-number
+add-number c = search needs
+
 number-form-requires : tie.Need-number-form-requires
 number-form-requires c κs =
     let t = c .before .before .before in
     let s = t .before .before .before .before .before .before .before .before in
     (s .pre .0, (s .pre .1, new-room _ _ (sym (t .enum-told .given .1) ∙ t .before .before .check-new .ensures)))
-
-add-t18 : tie.Need-add-t18
-add-t18 c = search needs
 
 enum-known-why : tie.Need-enum-known-why
 enum-known-why c = search needs
@@ -41,7 +41,7 @@ returns c =
     keeps-accepted _ _ _ _ _ _ _
     (rw (length-three (s .args .a .now) (s .args .b .now) (s .args .c .now) _ (s .pre .1))
     (outcome-accepted _ (sym (t .enum-told .given .1) ∙ t .before .before .check-new .ensures)))
-    (ap (λ (n : ℕ). New (n + 1)) (c .before .before .before .before .read-number .ensures .0))
+    (ap (λ (n : ℕ). New (n + 1) (s .args .moved)) (c .before .before .before .before .read-number .ensures .0))
     (c .before .before .number-form .ensures)
 
 same-length-2 : tie.Need-same-length-2
@@ -62,8 +62,8 @@ enter-new-spec =
     check-new-requires
     enum-told
     read-number-requires
+    add-number
     number-form-requires
-    add-t18
     enum-known-why
     same-length
     returns
