@@ -19,6 +19,8 @@ ODD_FIELDS = (
     "\u00b2".encode(), "\uff11".encode(),
 )
 BYTES = b"ACGT" * 8 + b" .019\n\r\tax\x00\xff"
+# The most bytes of an answer, with its line feed, where the input has the 65,536 bytes that are read.
+LONGEST_ANSWER = 65_558
 
 
 def fixed():
@@ -38,7 +40,9 @@ def fixed():
     for length in range(65_531, 65_542):
         yield b"A" * length
         yield b"A" * (length - 4) + b"\n0 0"
-    # The longest answers: a run of one letter takes all of the reference into the answer.
+    yield from longest_answers()
+    yield from long_answers()
+    # Around the edge of what is read: a run of one letter takes all of the reference into the answer.
     for length in range(65_510, 65_537):
         yield b"A" * length + b"\n0 0 A\n"
     # Cut within a line: in its replacement, its numbers, behind its line feed.
@@ -47,6 +51,42 @@ def fixed():
         yield b"C" * (65_536 - cut) + line
     yield b"ACGT" + b"\n" * 70_000
     yield b"ACGT\n" + b"1 2 T\n" * 12_000
+
+
+def filled(reference, start, end, letter):
+    """The reference and one allele, whose replacement fills the input."""
+    front = b"%s\n%d %d " % (reference, start, end)
+    return front + letter * (lines.MOST_READ - len(front))
+
+
+def longest_answers():
+    """One letter or more, put in at the front of a run of that letter: all of the run comes into the answer.
+
+    This has 22 bytes more than the input, and none has more. An answer has 8 separators where the input has 3, and an
+    indel's kind has 5 letters. Its replacement has the letters of the reference and of the replacement given, less one
+    for each residue before the normal interval, behind it or in the given interval. So the start and the numbers of
+    what shrank are best at one digit each: 3. left_widened is no more than the given start, and has no more digits.
+    The end and right_widened have 5 digits at most and the given end has one at least: 9. A substitution has 20 more
+    at most: the 7 more letters of its kind are worth less than the digits, which take a long reference, of which
+    nothing comes into its replacement. Nothing does where an allele is unchanged either."""
+    for residues in (65_530, 65_521, 32_768, 10_009):
+        for position in (0, 9):
+            yield filled(b"A" * residues, position, position, b"A")
+
+
+def long_answers():
+    """Others that are nearly as long, and numbers of five digits on each side, widened or shrunk."""
+    yield filled(b"C", 0, 1, b"A")
+    for residues in (10_000, 20_001, 65_000):
+        for position in (0, 9_999, residues // 2, residues):
+            yield filled(b"A" * residues, position, position, b"A")
+            yield b"%s\n%d %d ." % (b"A" * residues, position, min(position + 1, residues))
+    apart, run = b"CG" * 6_000, b"A" * 11_000
+    for reference, inserted in ((apart + apart, 12_000), (apart + run, 12_000), (run + apart, 11_000)):
+        given = reference[:inserted] + b"A" + reference[inserted:]
+        yield b"%s\n0 %d %s" % (reference, len(reference), given)
+        yield b"%s\n0 %d %s" % (reference, inserted, given[:inserted + 1])
+        yield b"%s\n%d %d %s" % (reference, inserted, len(reference), given[inserted:])
 
 
 def odd(rng):
@@ -101,6 +141,11 @@ def in_parts(command, given, length):
         return running.stdout.read()
 
 
+def ends(text):
+    """Where a text is long, its front and its end."""
+    return f"{text!r}" if len(text) <= 200 else f"{text[:100]!r} ... {text[-100:]!r}"
+
+
 def tries(command):
     """Inputs, each with what is printed for it."""
     for given in inputs():
@@ -111,14 +156,18 @@ def tries(command):
 
 
 def main(command):
-    tried = 0
+    tried = longest = 0
     for given, printed in tries(command):
         wanted = lines.output(given)
         if printed != wanted:
-            print(f"FAILED: input {given[:200]!r} of {len(given)} bytes: printed {printed[:200]!r}, not {wanted[:200]!r}")
+            print(f"FAILED: input {ends(given)} of {len(given)} bytes: printed {ends(printed)}, not {ends(wanted)}")
             return 1
         tried += 1
-    print(f"lines: ok, {tried} inputs are answered as the second program says")
+        longest = max(longest, *(len(line) + 1 for line in wanted.split(b"\n")))
+    if longest != LONGEST_ANSWER:
+        print(f"FAILED: the longest answer has {longest} bytes, not {LONGEST_ANSWER}")
+        return 1
+    print(f"lines: ok, {tried} inputs are answered as the second program says, the longest with {longest} bytes")
     return 0
 
 

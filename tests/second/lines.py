@@ -26,7 +26,8 @@ def answer(reference, line):
     refusal, _, form = model.formed(reference, start, end, b"" if fields[2] == b"." else fields[2])
     if refusal != 0:
         return b"refused %d" % refusal
-    return b"%d %d %s %s" % (form.start, form.end, model.KINDS[form.kind].encode(), form.replacement or b".")
+    kind, moved = model.KINDS[form.kind].encode(), model.moved(start, end, form)
+    return b"%d %d %s %s %d %d %d %d" % (form.start, form.end, kind, form.replacement or b".", *moved)
 
 
 def output(given):

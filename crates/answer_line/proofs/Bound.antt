@@ -1,5 +1,5 @@
 -- How long an answer is: at most `beyond` bytes more than the reference and the line together.
-use Prim.Native.Nat.{ℕ, zero, suc, _+_, _<_, _≤_, _^_}
+use Prim.Native.Nat.{ℕ, zero, suc, _+_, _-_, _<_, _≤_, _^_}
 use native.Mathlib.Omega.{arith}
 use mathlib.Core.Path.{_≡_, refl, ap}
 use mathlib.Core.Bool.{Bool, true, false, cond}
@@ -12,8 +12,10 @@ use Rattle.stretch.specs.Same.{same}
 use Rattle.stretch.proofs.Cases.{by-cases}
 use Rattle.refusal.specs.declared.Refusal.{Refusal}
 use Rattle.refusal.specs.Verdict.{Ground, Verdict, accepted, refused, unless, verdict}
+use Rattle.normal_form.specs.declared.Interval.{Interval}
 use Rattle.normal_form.specs.Form.{Normal, normal}
 use Rattle.normal_form.proofs.Laws.{normal-ordered, normal-inside, normal-short}
+use Rattle.moved.specs.Moved.{moved, interval, intervalOf, movedBy}
 use Rattle.normal_form_calls.specs.Calls.{formGrounds}
 use Rattle.normal_form_calls.proofs.Answers.{clean-allele}
 use Rattle.decimals.specs.declared.Number.{Number}
@@ -23,7 +25,8 @@ use Rattle.decimals.proofs.Digits.{decimal-within}
 use Rattle.fields.specs.Cut.{parted, onFirst}
 use Rattle.input_line.specs.Meaning.{Meaning, unread, allele, space, replacementOf, numbered, meaningOfFields}
 use Rattle.input_line.specs.Meaning.{meaningOf}
-use Rattle.answer_line.specs.Answers.{shown, formReply, verdictText, meaningText, answerLine, beyond, frontRoom}
+use Rattle.answer_line.specs.Answers.{shown, formReply, verdictText, meaningText, answerLine}
+use Rattle.answer_line.specs.Answers.{frontRoom, movesRoom, beyond}
 use Rattle.answer_line.proofs.Laying.{word-short}
 
 -- no piece is longer than the text
@@ -91,15 +94,21 @@ shown-short : (x : List ℕ) → length (shown x) ≤ length x + 1
 shown-short [] = omega arith
 shown-short (c ∷ x) = omega arith
 
-form-short : (f : Normal) → f .start < 2 ^ 64 → f .end < 2 ^ 64
-    → length (formReply f) ≤ frontRoom + length (f .replacement)
-form-short f h g = simp length-append
+-- a form whose ends, and those given, fit a machine word
+form-short : (given : Interval) (f : Normal) → given .start < 2 ^ 64 → given .end < 2 ^ 64 → f .start < 2 ^ 64
+    → f .end < 2 ^ 64
+    → length (formReply f (moved given (intervalOf f))) ≤ frontRoom + length (f .replacement) + movesRoom
+form-short given f a b c d = simp length-append
     (omega (
       arith,
-      decimal-within (f .start) h,
-      decimal-within (f .end) g,
+      decimal-within (f .start) c,
+      decimal-within (f .end) d,
       word-short (f .kind),
       shown-short (f .replacement),
+      decimal-within (given .start - f .start) (omega arith),
+      decimal-within (f .start - given .start) (omega arith),
+      decimal-within (f .end - given .end) (omega arith),
+      decimal-within (given .end - f .end) (omega arith),
     ))
 
 module _ (r : List ℕ) (start end : ℕ) (x : List ℕ) where
@@ -108,26 +117,25 @@ module _ (r : List ℕ) (start end : ℕ) (x : List ℕ) where
   five = refl
 
   verdict-short : (v : Verdict) → verdict (formGrounds r start end x) ≡ v
-      → length (verdictText v (normal r start end x)) ≤ length r + length x + frontRoom
+      → length (verdictText v (normal r start end x) (movedBy r start end x))
+      ≤ length r + length x + frontRoom + movesRoom
+  unfolding movedBy
   verdict-short (refused q) e =
       let l : q .number ≤ 5 = number-within 5 (formGrounds r start end x) q five e in
       simp length-append (omega (arith, decimal-within (q .number) (omega arith)))
   verdict-short accepted e =
       let a = clean-allele r start end x e in
+      let o = normal-ordered r start end x (a .ordered) in
+      let i = normal-inside r start end x (a .inside) in
       omega (
         arith,
-        form-short (normal r start end x)
-            (omega (
-              arith,
-              normal-ordered r start end x (a .ordered),
-              normal-inside r start end x (a .inside),
-              a .reference,
-            )) (omega (arith, normal-inside r start end x (a .inside), a .reference)),
+        form-short (interval start end) (normal r start end x)
+            (omega arith) (omega arith) (omega arith) (omega arith),
         normal-short r start end x (a .ordered) (a .inside),
       )
 
 text-short : (r line : List ℕ) (s : Meaning) → meaningOf line ≡ s
-    → length (meaningText r s) ≤ length r + length line + frontRoom
+    → length (meaningText r s) ≤ length r + length line + frontRoom + movesRoom
 unfolding meaningOf
 text-short r line unread e = omega arith
 text-short r line (allele start end x) e =

@@ -8,11 +8,9 @@ use Rattle.stretch.specs.Over.{Wrote}
 use Rattle.stretch.specs.Part.{part}
 use Rattle.normal_form.specs.declared.Kind.{Kind}
 use Rattle.normal_form.specs.declared.Kind.the-variants.{Unchanged, Substitution, Indel}
-use Rattle.normal_form.specs.declared.Stretches.{Stretches}
-use Rattle.normal_form.specs.Stretches.{Fits, joinedLength}
 use Rattle.decimals.specs.Decimal.{decimal}
 use Rattle.decimals.proofs.Digits.{decimal-within}
-use Rattle.answer_line.specs.Answers.{word, Room, frontRoom}
+use Rattle.answer_line.specs.Answers.{word}
 
 pub number-short : (n b : ℕ) → n < 2 ^ 64 → length (decimal n ++ (b ∷ [])) ≤ 21
 number-short n b h = simp length-append (omega (arith, decimal-within n h))
@@ -27,10 +25,3 @@ wrote-as l text same left n e w = rw e w
 
 pub part-short : (l : List ℕ) (from to : ℕ) → from ≤ to → length (part l from to) + from ≤ to
 part-short l from to h = simp length-take (omega arith)
-
--- after a front there is room for the stretches and a line feed
-pub room-form : (r x : List ℕ) (w : Stretches) (out left : List ℕ) {at n : ℕ} → Fits r x w → Room r x out
-    → at ≤ frontRoom
-    → length left ≡ length out → n ≡ joinedLength w → at + n < length left
-room-form r x w out left f h l e s =
-    omega (arith, f .before, f .ordered, f .after, f .allele .ordered, f .kept, f .inside)

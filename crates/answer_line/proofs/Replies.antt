@@ -1,7 +1,7 @@
 -- The answer to a line, by what the line says and by what the normaliser answers.
 use Prim.Native.Nat.{ℕ, _-_}
 use native.Mathlib.Omega.{arith}
-use mathlib.Core.Path.{_≡_, sym, ap}
+use mathlib.Core.Path.{_≡_, sym}
 use mathlib.Core.List.{List, [], _∷_, _++_, append-assoc}
 use lib.ListN.{length, take, drop}
 use borrow.Author.Tests.{ne-eqb}
@@ -10,27 +10,30 @@ use Rattle.stretch.proofs.Tail.{lent-tail}
 use Rattle.refusal.specs.declared.Refusal.{Refusal}
 use Rattle.normal_form.specs.declared.Kind.{Kind}
 use Rattle.normal_form.specs.declared.Stretches.{Stretches}
-use Rattle.normal_form.specs.Form.{Normal}
 use Rattle.normal_form.specs.Stretches.{formIn}
+use Rattle.moved.specs.declared.Moved.{Moved}
+use Rattle.moved.specs.Moved.{movedIn}
 use Rattle.normal_form_calls.specs.declared.Located.the-variants.{Accepted, Refused}
 use Rattle.normal_form_calls.specs.Calls.{locatedClean}
-use Rattle.normal_form_calls.proofs.Answers.{clean-accepted, clean-refused, clean-form}
+use Rattle.normal_form_calls.proofs.Answers.{clean-accepted, clean-refused, clean-form, clean-moved}
 use Rattle.input_line.specs.Meaning.{lineFeed, unread, allele, meaningOf}
-use Rattle.answer_line.specs.Answers.{formReply, alleleReply, answerLine}
+use Rattle.answer_line.specs.Answers.{shownMoves, formReply, alleleReply, answerLine}
 use Rattle.answer_line.specs.Inner.{head, refusedLine, stop}
 
 -- a form's line in its parts
-pub form-line : (k : Kind) (start end : ℕ) (t : List ℕ) (n : ℕ) → n ≡ length t
-    → formReply (record { kind = k; start = start; end = end; replacement = t })
-    ++ (lineFeed ∷ []) ≡ head start end k (stop n) ++ (t ++ (lineFeed ∷ []))
-form-line k start end [] n e = rw e (simp append-assoc)
-form-line k start end (c ∷ t) n e = rw (e, ne-eqb (length (c ∷ t)) 0 (λ z. omega arith)) (simp append-assoc)
+pub form-line : (k : Kind) (start end : ℕ) (t : List ℕ) (m : Moved) (n : ℕ) → n ≡ length t
+    → formReply (record { kind = k; start = start; end = end; replacement = t }) m
+    ++ (lineFeed ∷ []) ≡ head start end k (stop n) ++ (t ++ (shownMoves m ++ (lineFeed ∷ [])))
+form-line k start end [] m n e = rw e (simp append-assoc)
+form-line k start end (c ∷ t) m n e = rw (e, ne-eqb (length (c ∷ t)) 0 (λ z. omega arith)) (simp append-assoc)
 
 module _ (r : List ℕ) (start end : ℕ) (x : List ℕ) where
   pub accepted-line : (w : Stretches) → Accepted w ≡ locatedClean r start end x
-      → alleleReply r start end x ++ (lineFeed ∷ []) ≡ formReply (formIn r x w) ++ (lineFeed ∷ [])
-  accepted-line w e = rw (clean-accepted r start end x w e .0)
-      (ap (λ (f : Normal). formReply f ++ (lineFeed ∷ [])) (sym (clean-form r start end x w e)))
+      → alleleReply r start end x ++ (lineFeed ∷ []) ≡ formReply (formIn r x w) (movedIn w) ++ (lineFeed ∷ [])
+  accepted-line w e =
+      let f = sym (clean-form r start end x w e) in
+      let m = sym (clean-moved r start end x w e) in
+      rw (clean-accepted r start end x w e .0) (λ i. formReply (f i) (m i) ++ (lineFeed ∷ []))
 
   pub refused-line : (why : Refusal) → Refused why ≡ locatedClean r start end x
       → alleleReply r start end x ++ (lineFeed ∷ []) ≡ refusedLine (why .number)

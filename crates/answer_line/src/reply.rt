@@ -1,22 +1,22 @@
 // The line that answers a line.
-use super::write::put_line;
+use super::write::put_moves;
 use super::write::write_head;
 use super::write::write_refused;
 use input_line::Line;
 use input_line::read_line;
+use moved::moved_of;
 use normal_form::Stretches;
 use normal_form::joined_length;
-use normal_form::reference_after;
-use normal_form::reference_before;
-use normal_form::replacement_kept;
 use normal_form_calls::Located;
 use normal_form_calls::locate_clean;
+use normal_form_calls::write_form;
 use stretch::put;
 ghost use mathlib.Core.List.{_++_, _∷_, []};
 ghost use Prim.Native.Nat.{_≤_};
 ghost use lib.ListN.{length};
 ghost use Rattle.stretch.specs.Over.{Wrote};
 ghost use Rattle.normal_form.specs.Stretches.{Fits, formIn};
+ghost use Rattle.moved.specs.Moved.{movedIn};
 ghost use Rattle.input_line.specs.Meaning.{lineFeed};
 ghost use Rattle.answer_line.specs.Answers.{formReply, alleleReply, answerLine, Room, frontRoom};
 ghost use Rattle.answer_line.specs.Inner.{head, stop};
@@ -40,17 +40,12 @@ fn answer_form(reference: &[u8], replacement: &[u8], w: Stretches, out: &mut [u8
     requires { ⌜ Room (now reference) (now replacement) (now out) ⌝ }
     ensures { λ r. ⌜
         Wrote (now (out .entry)) 0
-        (formReply (formIn (now (reference .entry)) (now (replacement .entry)) w) ++ (lineFeed ∷ []))
+        (formReply (formIn (now (reference .entry)) (now (replacement .entry)) w) (movedIn w) ++ (lineFeed ∷ []))
         (now (out .exit)) r ⌝ }
 {
     let at = form_head(out, w, joined_length(w));
-    put_line(
-        out,
-        at,
-        reference_before(reference, w),
-        replacement_kept(replacement, w),
-        reference_after(reference, w),
-    )
+    let end = write_form(reference, replacement, w, out, at);
+    put_moves(out, end, moved_of(w))
 }
 
 fn answer_allele(

@@ -1,15 +1,15 @@
 // The parts of an answer, laid one after the other.
 use decimals::put_decimal;
+use moved::Moved;
 use normal_form::Kind;
 use stretch::put;
-use stretch::put_three;
 ghost use mathlib.Core.List.{_++_, _∷_, []};
 ghost use Prim.Native.Nat.{_+_, _≤_, _<_};
 ghost use lib.ListN.{length};
 ghost use Rattle.stretch.specs.Over.{Wrote};
 ghost use Rattle.decimals.specs.Decimal.{decimal};
 ghost use Rattle.input_line.specs.Meaning.{lineFeed};
-ghost use Rattle.answer_line.specs.Answers.{word, frontRoom};
+ghost use Rattle.answer_line.specs.Answers.{word, spaced, shownMoves, frontRoom, movesRoom};
 ghost use Rattle.answer_line.specs.Inner.{head, refusedLine};
 
 // A number, and one byte after it.
@@ -53,14 +53,26 @@ pub fn write_refused(out: &mut [u8], number: u64) -> usize
     put_number(out, at, number, b'\n')
 }
 
-// Three stretches from `at` on, and the line feed after them.
-pub fn put_line(out: &mut [u8], at: usize, a: &[u8], b: &[u8], c: &[u8]) -> usize
-    requires { ⌜ at + (length (now a) + (length (now b) + length (now c))) < length (now out) ⌝ }
-    ensures { λ r. ⌜
-        Wrote (now (out .entry)) at ((now (a .entry) ++ (now (b .entry) ++ now (c .entry))) ++ (lineFeed ∷ []))
-        (now (out .exit)) r ⌝ }
+// A space, and a number after it: 21 bytes at most.
+fn put_spaced(out: &mut [u8], at: usize, n: u64) -> usize
+    requires { ⌜ at + 21 ≤ length (now out) ⌝ }
+    ensures { λ r. ⌜ Wrote (now (out .entry)) at (spaced n) (now (out .exit)) r ⌝ }
+    ensures { λ r. ⌜ r ≤ at + 21 ⌝ }
 {
-    let last = put_three(out, at, a, b, c);
-    out[last] = b'\n';
-    last + 1
+    let digits = put(out, at, b" ");
+    put_decimal(out, digits, n)
+}
+
+// How far the form moved, from `at` on, and the line feed after it.
+pub fn put_moves(out: &mut [u8], at: usize, m: Moved) -> usize
+    requires { ⌜ at + movesRoom < length (now out) ⌝ }
+    ensures { λ r. ⌜ Wrote (now (out .entry)) at (shownMoves m ++ (lineFeed ∷ [])) (now (out .exit)) r ⌝ }
+{
+    let left = m.left;
+    let right = m.right;
+    let a = put_spaced(out, at, left.widened);
+    let b = put_spaced(out, a, left.shrunk);
+    let c = put_spaced(out, b, right.widened);
+    let d = put_spaced(out, c, right.shrunk);
+    put(out, d, b"\n")
 }

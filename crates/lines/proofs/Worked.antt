@@ -1,4 +1,4 @@
--- Document 01's example of the line program.
+-- Document 01's example of the line program, with the four numbers of document 02, Q-5.
 use mathlib.Core.Path.{_≡_, refl}
 use Rattle.stretch.specs.Ascii.{ascii}
 use Rattle.stretch.specs.Common.{lcp, lcs}
@@ -6,6 +6,7 @@ use Rattle.stretch.specs.Same.{same}
 use Rattle.stretch.specs.Class.{firstOutside}
 use Rattle.alphabets.specs.Alphabets.{letter, residue}
 use Rattle.normal_form.specs.Form.{altered, shorter, within, ahead, behind, kindIn, kindOf, changedForm, normal}
+use Rattle.moved.specs.Moved.{movedBy}
 use Rattle.normal_form_calls.specs.Calls.{formGrounds}
 use Rattle.decimals.specs.Decimal.{decimalIn, enough, decimal}
 use Rattle.decimals.specs.Number.{valueFrom, value, numberWithin, numberOf}
@@ -15,8 +16,8 @@ use Rattle.answer_line.specs.Answers.{answerLine}
 use Rattle.lines.specs.Output.{output}
 
 pub worked-output : output (ascii "TCAGCAGCAGT\n4 4 CAG\n2 2 .\n9 4 A\n")
-    ≡ ascii "1 10 indel CAGCAGCAGCAG\n2 2 unchanged .\nrefused 2\n"
+    ≡ ascii "1 10 indel CAGCAGCAGCAG 3 0 6 0\n2 2 unchanged . 0 0 0 0\nrefused 2\n"
 unfolding output answerLine parted meaningOf replacementOf same numberOf numberWithin value valueFrom decimal enough
     decimalIn formGrounds residue letter firstOutside normal altered changedForm kindOf kindIn ahead behind within
-    shorter lcp lcs
+    shorter lcp lcs movedBy
 worked-output = refl

@@ -1,5 +1,5 @@
-// Reads a reference and alleles from standard input, and prints the normal form of each allele
-// (document 01, "The line program").
+// Reads a reference and alleles from standard input, and prints the normal form of each allele and how far
+// it moved (document 01, "The line program"; document 02, Q-5).
 use libc::STDIN_FILENO;
 use libc::STDOUT_FILENO;
 use lines::INPUT_LIMIT;

@@ -1,11 +1,12 @@
--- The front, and the stretches after it.
+-- The front, the replacement, and how far the form moved.
 use native.Mathlib.Omega.{arith}
 use mathlib.Core.Path.{_∙_}
 use borrow.Author.Needs.{needs}
 use Rattle.stretch.proofs.Wrote.{wrote-then}
 use Rattle.normal_form.specs.Stretches.{joined}
-use Rattle.normal_form.proofs.Joined.{length-joined, pieces-joined, pieces-long}
-use Rattle.answer_line.proofs.Laying.{wrote-as, room-form}
+use Rattle.normal_form.proofs.Joined.{length-joined}
+use Rattle.moved.specs.Moved.{movedIn}
+use Rattle.answer_line.proofs.Laying.{wrote-as}
 use Rattle.answer_line.proofs.Replies.{form-line}
 use Rattle.answer_line.proofs.reply.answer_form.Statement.{statement}
 use Rattle.answer_line.proofs.reply.answer_form.Tie as tie
@@ -16,44 +17,35 @@ joined-length-requires c κs = search needs
 form-head-requires : tie.Need-form-head-requires
 form-head-requires c κs = search needs
 
-reference-before-requires : tie.Need-reference-before-requires
-reference-before-requires c κs = search needs
+write-form-requires : tie.Need-write-form-requires
+write-form-requires c κs = search needs
 
-replacement-kept-requires : tie.Need-replacement-kept-requires
-replacement-kept-requires c κs = search needs
+moved-of-requires : tie.Need-moved-of-requires
+moved-of-requires c κs = search needs
 
-reference-after-requires : tie.Need-reference-after-requires
-reference-after-requires c κs = search needs
-
-put-line-requires : tie.Need-put-line-requires
-put-line-requires c κs =
-    let h = c .before .before .before .before .before .before in
-    let s = h .before .before .before .before .before .before in
-    let first = c .before .before .reference-before .ensures in
-    let second = c .before .replacement-kept .ensures in
-    let long = pieces-long _ _ _ (s .pre .0) first second (c .reference-after .ensures) in
-    room-form _ _ (s .args .w) (s .args .out .now) (h .form-head .last .0) (s .pre .0) (s .pre .1)
-    (h .form-head .ensures .1) (h .form-head .kept .0) long
+put-moves-requires : tie.Need-put-moves-requires
+put-moves-requires c κs =
+    let p = c .before .before .before .before in
+    let s = p .before .before .before .before .before .before .before .before .before .before in
+    omega (arith, p .write-form .ensures .next, length-joined _ _ _ (s .pre .0))
 
 same-length : tie.Need-same-length
 same-length c = search needs
 
 returns : tie.Need-returns
 returns c =
-    let t = c .before .before .before in
-    let h = t .before .before .before .before .before .before in
+    let m = c .before .before .before in
+    let p = m .before .before .before .before in
+    let h = p .before .before .before .before in
     let s = h .before .before .before .before .before .before in
     let w = s .args .w in
-    let r = s .args .reference .now in
-    let x = s .args .replacement .now in
-    let first = t .before .before .reference-before .ensures in
-    let second = t .before .replacement-kept .ensures in
-    let e = pieces-joined r x w first second (t .reference-after .ensures) in
-    let front = h .form-head .ensures .0 in
+    let t = joined (s .args .reference .now) (s .args .replacement .now) w in
     wrote-as _ _ _ _ _
-    (form-line (w .kind) (w .start) (w .end) (joined r x w) _
-    (h .before .joined-length .ensures ∙ length-joined r x w (s .pre .0)))
-    (wrote-then (s .args .out .now) 0 _ _ _ _ _ _ (omega arith) front (rw e at (c .before .before .put-line .ensures)))
+    (form-line (w .kind) (w .start) (w .end) t (movedIn w) _
+    (h .before .joined-length .ensures ∙ length-joined _ _ _ (s .pre .0)))
+    (wrote-then _ 0 _ _ _ _ _ _ (omega arith) (h .form-head .ensures .0)
+    (wrote-then _ _ _ _ _ _ _ _ (h .form-head .ensures .0 .room) (p .write-form .ensures)
+    (rw (m .moved-of .ensures) at (c .before .before .put-moves .ensures))))
 
 pub answer-form-spec : {M : Type 1} → statement M
 answer-form-spec =
@@ -61,9 +53,8 @@ answer-form-spec =
     (tie.spec
     joined-length-requires
     form-head-requires
-    reference-before-requires
-    replacement-kept-requires
-    reference-after-requires
-    put-line-requires
+    write-form-requires
+    moved-of-requires
+    put-moves-requires
     same-length
     returns)
