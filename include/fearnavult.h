@@ -107,14 +107,22 @@ fv_outcome fv_running_feed(fv_running *state, const uint8_t *part, size_t part_l
  */
 fv_written fv_running_finish(const fv_running *state, uint8_t *out, size_t out_len, uint64_t place);
 
-/* A normal form. */
+/*
+ * A normal form, and how far it moved. On either side the normal interval has widened by the residues that
+ * it has past the given interval, or has shrunk by those that it leaves out of it, or neither: at most one of
+ * the two numbers of a side is above 0. An unchanged allele has four zeros.
+ */
 typedef struct {
     uint64_t refusal;
     uint64_t value;
-    uint64_t kind;   /* 0 unchanged, 1 substitution, 2 indel */
+    uint64_t kind;          /* 0 unchanged, 1 substitution, 2 indel */
     uint64_t start;
     uint64_t end;
-    uint64_t length; /* of the normal replacement: how many bytes the call wrote */
+    uint64_t length;        /* of the normal replacement: how many bytes the call wrote */
+    uint64_t left_widened;  /* the given start less this start, or 0 */
+    uint64_t left_shrunk;   /* this start less the given start, or 0 */
+    uint64_t right_widened; /* this end less the given end, or 0 */
+    uint64_t right_shrunk;  /* the given end less this end, or 0 */
 } fv_form;
 
 /*
@@ -133,7 +141,8 @@ typedef struct {
  * only the bytes that come into the normal replacement need to be residues. The time grows with what is
  * trimmed, rolled over and written, not with the length of the reference.
  *
- * Accepted: { 0, 0, kind, start, end, length }. Refused, in this order:
+ * Accepted: { 0, 0, kind, start, end, length, left_widened, left_shrunk, right_widened, right_shrunk }.
+ * Refused, in this order:
  *   1, value 0    the reference has over 1,000,000,000 bytes;
  *   1, value 1    the replacement has over 1,000,000 bytes;
  *   2, value 0    start is above end;
@@ -146,8 +155,10 @@ typedef struct {
  * refused under 6, and 0 where it is accepted.
  *
  * With the reference `TCAGCAGCAGT`, start 4, end 4, the replacement `CAG`, place 0 and room for 12
- * bytes, the answer is { 0, 0, 2, 1, 10, 12 }, and `out` then holds
+ * bytes, the answer is { 0, 0, 2, 1, 10, 12, 3, 0, 6, 0 }, and `out` then holds
  * CAGCAGCAGCAG
+ * With start 1, end 5 and the replacement `CTGC` it is { 0, 0, 1, 2, 3, 1, 0, 1, 0, 2 }, and `out` then holds
+ * T
  */
 fv_form fv_normal_form(const uint8_t *reference, size_t reference_len, uint64_t start, uint64_t end,
                        const uint8_t *replacement, size_t replacement_len,
@@ -219,21 +230,33 @@ fv_written fv_allele_text(const uint8_t *reference, size_t reference_len, uint64
                           const uint8_t *digest, size_t digest_len,
                           uint8_t *out, size_t out_len, uint64_t place);
 
+/* The answer of an allele's identifier: how many bytes were written, and how far it moved (see fv_form). */
+typedef struct {
+    uint64_t refusal;
+    uint64_t value;
+    uint64_t length;
+    uint64_t left_widened;
+    uint64_t left_shrunk;
+    uint64_t right_widened;
+    uint64_t right_shrunk;
+} fv_identified;
+
 /*
  * Writes the identifier of an allele likewise: the 9 bytes `ga4gh:VA.`, then the digest of its text,
  * which needs no room. That is 41 bytes. Two alleles that make the same sequence, other than the
- * reference itself, have the same identifier.
+ * reference itself, have the same identifier; how far each moved is its own.
  *
- * Accepted: { 0, 0, 41 }. Refused as fv_allele_text is, but
+ * Accepted: { 0, 0, 41, left_widened, left_shrunk, right_widened, right_shrunk }. Refused as fv_allele_text
+ * is, but
  *   6, value 41   `out` has fewer bytes than that from `place` on, or `place` is past its end.
  *
- * For the same allele it is
+ * For the same allele the answer is { 0, 0, 41, 3, 0, 6, 0 }, and the identifier
  * ga4gh:VA.AI9QWkPg6MybxSaPDP38hunMAsLzNpmS
  */
-fv_written fv_allele_identifier(const uint8_t *reference, size_t reference_len, uint64_t start, uint64_t end,
-                                const uint8_t *replacement, size_t replacement_len,
-                                const uint8_t *digest, size_t digest_len,
-                                uint8_t *out, size_t out_len, uint64_t place);
+fv_identified fv_allele_identifier(const uint8_t *reference, size_t reference_len, uint64_t start, uint64_t end,
+                                   const uint8_t *replacement, size_t replacement_len,
+                                   const uint8_t *digest, size_t digest_len,
+                                   uint8_t *out, size_t out_len, uint64_t place);
 
 /* What a location text says. */
 typedef struct {
@@ -326,12 +349,19 @@ fv_outcome fv_blank(uint8_t *image, size_t image_len, uint64_t reference_length,
                     const uint8_t *digest, size_t digest_len,
                     uint64_t records, uint64_t journal, uint64_t pool);
 
-/* The answer of an entry. */
+/*
+ * The answer of an entry, and how far the allele moved (see fv_form) from the interval that this call was given.
+ * The image does not keep it.
+ */
 typedef struct {
     uint64_t refusal;
     uint64_t value;
     uint64_t answer; /* 1 new, 2 again, 3 known */
     uint64_t number; /* the allele's, from 1 */
+    uint64_t left_widened;
+    uint64_t left_shrunk;
+    uint64_t right_widened;
+    uint64_t right_shrunk;
 } fv_entered;
 
 /*
@@ -347,7 +377,8 @@ typedef struct {
  * The digest is that of the reference. It is compared with the header's and not with the reference. It
  * must not be lent as `image + 44`, since that overlaps the image.
  *
- * Accepted: { 0, 0, answer, number }. Refused, in this order:
+ * Accepted: { 0, 0, answer, number, left_widened, left_shrunk, right_widened, right_shrunk }. Refused, in this
+ * order:
  *   10, value 0   the image is not well formed;
  *   11, value 0   the digest is not the header's 32 bytes;
  *   11, value 1   the reference has another length than the header says, as one over 1,000,000,000 has;
@@ -364,8 +395,8 @@ typedef struct {
  *   15, value J   all J journal entries are in use.
  *
  * On fv_blank's example, with the reference `TCAGCAGCAGT` and its digest, start 4, end 4 and `CAG` are
- * answered { 0, 0, 1, 1 }: new, number 1. Then start 1, end 2 and `CAGC`, which make the same sequence,
- * are answered { 0, 0, 3, 1 }: known, number 1.
+ * answered { 0, 0, 1, 1, 3, 0, 6, 0 }: new, number 1. Then start 1, end 2 and `CAGC`, which make the same
+ * sequence, are answered { 0, 0, 3, 1, 0, 0, 8, 0 }: known, number 1.
  */
 fv_entered fv_entry(uint8_t *image, size_t image_len, const uint8_t *digest, size_t digest_len,
                     const uint8_t *reference, size_t reference_len, uint64_t start, uint64_t end,
@@ -434,9 +465,10 @@ fv_outcome fv_seal(uint8_t *image, size_t image_len);
  *
  * From a line to a number: ask fv_vcf_count for the places, and fv_vcf_form for the form of each; then
  * lend its start, its end and the replacement that it wrote to fv_entry or fv_allele_identifier, as they
- * are. That is the allele of the line, since a normal form is its own normal form. This way ends where the
- * normal replacement has over 1,000,000 letters, which those calls refuse under 1: lend them the start,
- * the end and the alternate, in upper case, that the line itself gives.
+ * are. That is the allele of the line, since a normal form is its own normal form. How far it moved from the
+ * line's interval fv_vcf_form says; those calls answer four zeros to it. This way ends where the normal
+ * replacement has over 1,000,000 letters, which those calls refuse under 1: lend them the start, the end and
+ * the alternate, in upper case, that the line itself gives.
  */
 
 /* The answer of a count. */
@@ -465,13 +497,14 @@ fv_counted fv_vcf_count(const uint8_t *reference, size_t reference_len, const ui
 
 /*
  * Answers the normal form of the allele that the alternate at one place of a line's ALT makes, and writes
- * its replacement, as fv_normal_form does. An alternate that is REF again changes nothing, and is
- * answered with kind 0.
+ * its replacement, as fv_normal_form does. The given interval, from which it moved, is the line's own. An
+ * alternate that is REF again changes nothing, and is answered with kind 0.
  *
  * An alternate that is not all letters is refused, and the others of its line are answered: one that is
  * missing (`.` or `*`), symbolic (`<DEL>`), a breakend (`G[2:421681[`, `G.`) or empty.
  *
- * Accepted: { 0, 0, kind, start, end, length }. Refused, in this order:
+ * Accepted: { 0, 0, kind, start, end, length, left_widened, left_shrunk, right_widened, right_shrunk }.
+ * Refused, in this order:
  *   1, value 0    as fv_vcf_count is;
  *   19, value 0   likewise;
  *   20, value i   likewise;
@@ -483,10 +516,10 @@ fv_counted fv_vcf_count(const uint8_t *reference, size_t reference_len, const ui
  * A call with an `out` of 0 bytes and place 0 learns the length that is needed, as with fv_normal_form.
  *
  * With the line of fv_vcf_count's example, place 0 and room for 12 bytes, alternate 1 is answered
- * { 0, 0, 2, 1, 10, 12 }, and `out` then holds
+ * { 0, 0, 2, 1, 10, 12, 2, 0, 6, 0 }, and `out` then holds
  * CAGCAGCAGCAG
- * Alternate 2 is refused { 21, 2, 0, 0, 0, 0 }, alternate 4 { 21, 4, 0, 0, 0, 0 }. Alternate 3 is answered
- * { 0, 0, 1, 3, 4, 1 }, and `out` then holds
+ * Alternate 2 is refused { 21, 2, 0, 0, 0, 0, 0, 0, 0, 0 }, alternate 4 { 21, 4, 0, 0, 0, 0, 0, 0, 0, 0 }.
+ * Alternate 3 is answered { 0, 0, 1, 3, 4, 1, 0, 0, 0, 0 }, and `out` then holds
  * T
  */
 fv_form fv_vcf_form(const uint8_t *reference, size_t reference_len, const uint8_t *line, size_t line_len,

@@ -35,7 +35,7 @@ enum { PROT_NONE = 0, PROT_READ = 1, PROT_WRITE = 2 };
 enum { MAP_PRIVATE = 2, MAP_ANONYMOUS = 0x20, MAP_NORESERVE = 0x4000 };
 
 enum { CHUNK = 1 << 20, PAGE = 4096, GUARD = 64, ROOM = 1 << 28 };
-enum { NUMBERS = 4, SLICES = 4, ANSWERS = 9, PARTS = 3 };
+enum { NUMBERS = 4, SLICES = 4, ANSWERS = 10, PARTS = 3 };
 #define UNTOUCHED (UINT64_C(1) << 63)
 #define REPEATED (UINT64_C(1) << 62)
 #define NO_MEMORY UINT64_MAX
@@ -72,7 +72,14 @@ static int outcome(fv_outcome o, uint64_t *a) {
 
 static int form(fv_form f, uint64_t *a) {
     a[0] = f.refusal, a[1] = f.value, a[2] = f.kind, a[3] = f.start, a[4] = f.end, a[5] = f.length;
-    return 6;
+    a[6] = f.left_widened, a[7] = f.left_shrunk, a[8] = f.right_widened, a[9] = f.right_shrunk;
+    return 10;
+}
+
+static int identified(fv_identified i, uint64_t *a) {
+    a[0] = i.refusal, a[1] = i.value, a[2] = i.length;
+    a[3] = i.left_widened, a[4] = i.left_shrunk, a[5] = i.right_widened, a[6] = i.right_shrunk;
+    return 7;
 }
 
 /* Each of these makes a call and answers how many numbers it left in a. */
@@ -89,7 +96,7 @@ static int make_form_or_text(char code, const uint64_t *n, const slice *s, uint6
     case 'A':
         return written(fv_allele_text(LENT(s[0]), n[0], n[1], LENT(s[1]), LENT(s[2]), LENT(s[3]), n[2]), a);
     case 'a':
-        return written(fv_allele_identifier(LENT(s[0]), n[0], n[1], LENT(s[1]), LENT(s[2]), LENT(s[3]), n[2]), a);
+        return identified(fv_allele_identifier(LENT(s[0]), n[0], n[1], LENT(s[1]), LENT(s[2]), LENT(s[3]), n[2]), a);
     }
     stop("no such form or text");
 }
@@ -131,7 +138,8 @@ static int make_register(char code, const uint64_t *n, const slice *s, uint64_t 
     case 'e': {
         fv_entered e = fv_entry(LENT(s[0]), LENT(s[1]), LENT(s[2]), n[0], n[1], LENT(s[3]));
         a[0] = e.refusal, a[1] = e.value, a[2] = e.answer, a[3] = e.number;
-        return 4;
+        a[4] = e.left_widened, a[5] = e.left_shrunk, a[6] = e.right_widened, a[7] = e.right_shrunk;
+        return 8;
     }
     case 'w':
         return outcome(fv_withdraw(LENT(s[0]), n[0]), a);

@@ -55,11 +55,23 @@ static void sequences(void) {
                                       "ga4gh:SQ.aKF498dAxcJAqme6QYQ7EZ07-fiw8Kw2"));
 }
 
-static void forms(void) {
-    fv_form f = fv_normal_form(TEXT(REPEAT), 4, 4, TEXT("CAG"), out, sizeof out, 0);
-    expect("fv_normal_form", f.refusal == 0 && f.value == 0 && f.kind == 2 && f.start == 1 && f.end == 10
-                             && f.length == 12 && memcmp(out, "CAGCAGCAGCAG", 13) == 0);
+/* Whether the answer is this form and this was written. */
+static int form_is(fv_form f, fv_form wanted, const char *text) {
+    int is = memcmp(&f, &wanted, sizeof f) == 0 && strcmp((const char *)out, text) == 0;
     memset(out, 0, sizeof out);
+    return is;
+}
+
+static void forms(void) {
+    expect("fv_normal_form", form_is(fv_normal_form(TEXT(REPEAT), 4, 4, TEXT("CAG"), out, 12, 0),
+                                     (fv_form){0, 0, 2, 1, 10, 12, 3, 0, 6, 0}, "CAGCAGCAGCAG"));
+    expect("fv_normal_form", form_is(fv_normal_form(TEXT(REPEAT), 1, 5, TEXT("CTGC"), out, 12, 0),
+                                     (fv_form){0, 0, 1, 2, 3, 1, 0, 1, 0, 2}, "T"));
+}
+
+static int identified(fv_identified i, const char *text) {
+    return wrote((fv_written){i.refusal, i.value, i.length}, text) && i.left_widened == 3 && i.left_shrunk == 0
+           && i.right_widened == 6 && i.right_shrunk == 0;
 }
 
 static void texts_written(void) {
@@ -69,9 +81,9 @@ static void texts_written(void) {
                                            "ga4gh:VSL.NERH7ClkNiblyxw1x18NLM8Y7sEdWeN7"));
     expect("fv_allele_text", wrote(fv_allele_text(TEXT(REPEAT), 4, 4, TEXT("CAG"), TEXT(DIGEST), out, sizeof out, 0),
                                    ALLELE) && strlen(ALLELE) == 122);
-    expect("fv_allele_identifier", wrote(fv_allele_identifier(TEXT(REPEAT), 4, 4, TEXT("CAG"), TEXT(DIGEST),
-                                                              out, sizeof out, 0),
-                                         "ga4gh:VA.AI9QWkPg6MybxSaPDP38hunMAsLzNpmS"));
+    expect("fv_allele_identifier", identified(fv_allele_identifier(TEXT(REPEAT), 4, 4, TEXT("CAG"), TEXT(DIGEST),
+                                                                   out, sizeof out, 0),
+                                              "ga4gh:VA.AI9QWkPg6MybxSaPDP38hunMAsLzNpmS"));
 }
 
 static int location_is(fv_location l, uint64_t refusal, uint64_t value, uint64_t start, uint64_t end, uint64_t digest) {
@@ -96,10 +108,11 @@ static void texts_read(void) {
     expect("fv_read_allele", allele_is(fv_read_allele(other, sizeof other), 8, 121, 0, 0, 0));
 }
 
-static int entered(uint8_t *image, uint64_t start, uint64_t end, const char *replacement, uint64_t answer) {
-    fv_entered e = fv_entry(image, 143, TEXT(DIGEST), TEXT(REPEAT), start, end,
-                            (const uint8_t *)replacement, strlen(replacement));
-    return e.refusal == 0 && e.value == 0 && e.answer == answer && e.number == 1;
+#define ENTRY(image, start, end, replacement) \
+    fv_entry(image, 143, TEXT(DIGEST), TEXT(REPEAT), start, end, TEXT(replacement))
+
+static int entered(fv_entered e, fv_entered wanted) {
+    return memcmp(&e, &wanted, sizeof e) == 0;
 }
 
 static int undone(uint8_t *image, uint64_t refusal, uint64_t value, uint64_t number) {
@@ -108,21 +121,22 @@ static int undone(uint8_t *image, uint64_t refusal, uint64_t value, uint64_t num
 }
 
 static void registers(void) {
+    const fv_entered known = {0, 0, 3, 1, 3, 0, 6, 0};
     uint8_t image[143], sealed[143];
     expect("fv_blank", answered(fv_blank(image, 142, 11, TEXT(DIGEST), 2, 3, 15), 9, 143));
     expect("fv_blank", answered(fv_blank(image, 143, 11, TEXT(DIGEST), 2, 3, 15), 0, 0)
                        && image[24] == 116 && image[36] == 128);
-    expect("fv_entry", entered(image, 4, 4, "CAG", 1));
-    expect("fv_entry", entered(image, 1, 2, "CAGC", 3));
+    expect("fv_entry", entered(ENTRY(image, 4, 4, "CAG"), (fv_entered){0, 0, 1, 1, 3, 0, 6, 0}));
+    expect("fv_entry", entered(ENTRY(image, 1, 2, "CAGC"), (fv_entered){0, 0, 3, 1, 0, 0, 8, 0}));
     memcpy(sealed, image, sizeof image);
     expect("fv_withdraw", answered(fv_withdraw(image, 143, 1), 0, 0));
     expect("fv_withdraw", answered(fv_withdraw(image, 143, 1), 17, 1));
     expect("fv_withdraw", answered(fv_withdraw(image, 143, 2), 16, 1));
-    expect("fv_undo", undone(image, 0, 0, 1) && entered(image, 4, 4, "CAG", 3));
+    expect("fv_undo", undone(image, 0, 0, 1) && entered(ENTRY(image, 4, 4, "CAG"), known));
     expect("fv_undo", undone(image, 0, 0, 1));
     expect("fv_undo", undone(image, 18, 0, 0));
     expect("fv_seal", answered(fv_seal(sealed, 143), 0, 0));
-    expect("fv_seal", undone(sealed, 18, 0, 0) && entered(sealed, 4, 4, "CAG", 3));
+    expect("fv_seal", undone(sealed, 18, 0, 0) && entered(ENTRY(sealed, 4, 4, "CAG"), known));
 }
 
 #define LINE(pos, ref) TEXT("chr1\t" pos "\t.\t" ref "\tGCAG,*,t")
@@ -133,21 +147,17 @@ static int counted(fv_counted c, uint64_t refusal, uint64_t value, uint64_t coun
 
 /* Whether the answer to an alternate of the line is this form, or a refusal of this value, and this was written. */
 static int formed(uint64_t alternate, fv_form wanted, const char *text) {
-    fv_form f = fv_vcf_form(TEXT(REPEAT), LINE("4", "G"), alternate, out, 12, 0);
-    int is = f.refusal == wanted.refusal && f.value == wanted.value && f.kind == wanted.kind && f.start == wanted.start
-             && f.end == wanted.end && f.length == wanted.length && strcmp((const char *)out, text) == 0;
-    memset(out, 0, sizeof out);
-    return is;
+    return form_is(fv_vcf_form(TEXT(REPEAT), LINE("4", "G"), alternate, out, 12, 0), wanted, text);
 }
 
 static void vcf_lines(void) {
     expect("fv_vcf_count", counted(fv_vcf_count(TEXT(REPEAT), LINE("4", "G")), 0, 0, 3));
     expect("fv_vcf_count", counted(fv_vcf_count(TEXT(REPEAT), LINE("4", "GCAT")), 20, 3, 0));
     expect("fv_vcf_count", counted(fv_vcf_count(TEXT(REPEAT), LINE("12", "G")), 19, 0, 0));
-    expect("fv_vcf_form", formed(1, (fv_form){0, 0, 2, 1, 10, 12}, "CAGCAGCAGCAG"));
-    expect("fv_vcf_form", formed(2, (fv_form){21, 2, 0, 0, 0, 0}, ""));
-    expect("fv_vcf_form", formed(4, (fv_form){21, 4, 0, 0, 0, 0}, ""));
-    expect("fv_vcf_form", formed(3, (fv_form){0, 0, 1, 3, 4, 1}, "T"));
+    expect("fv_vcf_form", formed(1, (fv_form){0, 0, 2, 1, 10, 12, 2, 0, 6, 0}, "CAGCAGCAGCAG"));
+    expect("fv_vcf_form", formed(2, (fv_form){21, 2, 0, 0, 0, 0, 0, 0, 0, 0}, ""));
+    expect("fv_vcf_form", formed(4, (fv_form){21, 4, 0, 0, 0, 0, 0, 0, 0, 0}, ""));
+    expect("fv_vcf_form", formed(3, (fv_form){0, 0, 1, 3, 4, 1, 0, 0, 0, 0}, "T"));
 }
 
 int main(void) {

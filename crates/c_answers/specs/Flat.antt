@@ -9,6 +9,9 @@ use Rattle.normal_form.specs.declared.Kind.{Kind}
 use Rattle.normal_form.specs.declared.Kind.the-variants.{Unchanged, Substitution, Indel}
 use Rattle.normal_form_calls.specs.declared.Normalised.{Normalised}
 use Rattle.normal_form_calls.specs.declared.Normalised.the-variants.{Accepted as Formed, Refused as Unformed}
+use Rattle.moved.specs.Moved.{still}
+use Rattle.allele_identifier.specs.declared.Identified.{Identified}
+use Rattle.allele_identifier.specs.declared.Identified.the-variants.{Bytes as Identifier, Refused as Unidentified}
 use Rattle.text_reader.specs.declared.LocationRead.{LocationRead}
 use Rattle.text_reader.specs.declared.LocationRead.the-variants.{Accepted as Located, Refused as Unlocated}
 use Rattle.text_reader.specs.declared.AlleleRead.{AlleleRead}
@@ -23,6 +26,7 @@ use Rattle.c_answers.specs.declared.FvAllele.{FvAllele}
 use Rattle.c_answers.specs.declared.FvCounted.{FvCounted}
 use Rattle.c_answers.specs.declared.FvEntered.{FvEntered}
 use Rattle.c_answers.specs.declared.FvForm.{FvForm}
+use Rattle.c_answers.specs.declared.FvIdentified.{FvIdentified}
 use Rattle.c_answers.specs.declared.FvLocation.{FvLocation}
 use Rattle.c_answers.specs.declared.FvOutcome.{FvOutcome}
 use Rattle.c_answers.specs.declared.FvUndone.{FvUndone}
@@ -33,15 +37,28 @@ abbrev pub flatWritten : Written → FvWritten
 flatWritten (Bytes n) = record { refusal = 0; value = 0; length = n }
 flatWritten (Refused r) = record { refusal = r .number; value = r .value; length = 0 }
 
+abbrev pub flatIdentified : Identified → FvIdentified
+flatIdentified (Identifier n m) = record { refusal = 0; value = 0; length = n; moved = m }
+flatIdentified (Unidentified r) = record { refusal = r .number; value = r .value; length = 0; moved = still }
+
 abbrev pub flatKind : Kind → ℕ
 flatKind Unchanged = 0
 flatKind Substitution = 1
 flatKind Indel = 2
 
 abbrev pub flatForm : Normalised → FvForm
-flatForm (Formed f) =
-    record { refusal = 0; value = 0; kind = flatKind (f .kind); start = f .start; end = f .end; length = f .length }
-flatForm (Unformed r) = record { refusal = r .number; value = r .value; kind = 0; start = 0; end = 0; length = 0 }
+flatForm (Formed f m) =
+    record {
+      refusal = 0;
+      value = 0;
+      kind = flatKind (f .kind);
+      start = f .start;
+      end = f .end;
+      length = f .length;
+      moved = m;
+    }
+flatForm (Unformed r) =
+    record { refusal = r .number; value = r .value; kind = 0; start = 0; end = 0; length = 0; moved = still }
 
 abbrev pub flatLocation : LocationRead → FvLocation
 flatLocation (Located p) = record { refusal = 0; value = 0; start = p .start; end = p .end; digest = p .digest }
@@ -62,10 +79,10 @@ flatOutcome (Stopped r) = record { refusal = r .number; value = r .value }
 
 -- 1 new, 2 again, 3 known
 abbrev pub flatEntered : Entered → FvEntered
-flatEntered (New i) = record { refusal = 0; value = 0; answer = 1; number = i }
-flatEntered (Again i) = record { refusal = 0; value = 0; answer = 2; number = i }
-flatEntered (Known i) = record { refusal = 0; value = 0; answer = 3; number = i }
-flatEntered (Unentered r) = record { refusal = r .number; value = r .value; answer = 0; number = 0 }
+flatEntered (New i m) = record { refusal = 0; value = 0; answer = 1; number = i; moved = m }
+flatEntered (Again i m) = record { refusal = 0; value = 0; answer = 2; number = i; moved = m }
+flatEntered (Known i m) = record { refusal = 0; value = 0; answer = 3; number = i; moved = m }
+flatEntered (Unentered r) = record { refusal = r .number; value = r .value; answer = 0; number = 0; moved = still }
 
 abbrev pub flatUndone : Undone → FvUndone
 flatUndone (Number i) = record { refusal = 0; value = 0; number = i }

@@ -12,6 +12,7 @@ pub use read::flat_allele;
 pub use read::flat_counted;
 pub use read::flat_location;
 pub use written::flat_form;
+pub use written::flat_identified;
 pub use written::flat_written;
 
 // What a call that writes answers: document 01's number of the refusal and its value, and the count
@@ -24,7 +25,8 @@ pub struct FvWritten {
 }
 
 // What the normal form's call answers: the refusal as above, the kind (0 unchanged, 1 substitution,
-// 2 indel), the interval, and the length of the replacement. Each is 0 where it doesn't apply.
+// 2 indel), the interval, the length of the replacement, and how far it moved. Each is 0 where it doesn't
+// apply.
 #[repr(C)]
 pub struct FvForm {
     pub refusal: u64,
@@ -33,6 +35,17 @@ pub struct FvForm {
     pub start: u64,
     pub end: u64,
     pub length: u64,
+    pub moved: moved::Moved,
+}
+
+// What an allele's identifier answers: as a call that writes, and how far the normal form moved. Each is 0
+// where it doesn't apply.
+#[repr(C)]
+pub struct FvIdentified {
+    pub refusal: u64,
+    pub value: u64,
+    pub length: u64,
+    pub moved: moved::Moved,
 }
 
 // What a location text is read as: the refusal as above, the interval, and where the digest lies.
@@ -73,14 +86,15 @@ pub struct FvOutcome {
     pub value: u64,
 }
 
-// What an entry answers: the refusal as above, how the allele was found (1 new, 2 again, 3 known), and
-// its number. Each is 0 where it doesn't apply.
+// What an entry answers: the refusal as above, how the allele was found (1 new, 2 again, 3 known), its
+// number, and how far its normal form moved. Each is 0 where it doesn't apply.
 #[repr(C)]
 pub struct FvEntered {
     pub refusal: u64,
     pub value: u64,
     pub answer: u64,
     pub number: u64,
+    pub moved: moved::Moved,
 }
 
 // What an undo answers: the refusal as above, and the number. Each is 0 where it doesn't apply.

@@ -3,6 +3,8 @@ use super::FvEntered;
 use super::FvOutcome;
 use super::FvUndone;
 use form_entry::Entered;
+use moved::Moved;
+use moved::still;
 use refusal::Outcome;
 use register::Undone;
 ghost use mathlib.Core.Path.{_≡_};
@@ -23,14 +25,15 @@ pub fn flat_outcome(a: Outcome) -> FvOutcome
     }
 }
 
-fn entered_as(answer: u64, number: u64) -> FvEntered
-    ensures { λ r. ⌜ r ≡ record { refusal = 0; value = 0; answer = answer; number = number } ⌝ }
+fn entered_as(answer: u64, number: u64, moved: Moved) -> FvEntered
+    ensures { λ r. ⌜ r ≡ record { refusal = 0; value = 0; answer = answer; number = number; moved = moved } ⌝ }
 {
     FvEntered {
         refusal: 0,
         value: 0,
         answer,
         number,
+        moved,
     }
 }
 
@@ -38,14 +41,15 @@ pub fn flat_entered(a: Entered) -> FvEntered
     ensures { λ r. ⌜ r ≡ flatEntered a ⌝ }
 {
     match a {
-        Entered::New(number) => entered_as(1, number),
-        Entered::Again(number) => entered_as(2, number),
-        Entered::Known(number) => entered_as(3, number),
+        Entered::New(number, moved) => entered_as(1, number, moved),
+        Entered::Again(number, moved) => entered_as(2, number, moved),
+        Entered::Known(number, moved) => entered_as(3, number, moved),
         Entered::Refused(why) => FvEntered {
             refusal: why.number,
             value: why.value,
             answer: 0,
             number: 0,
+            moved: still(),
         },
     }
 }

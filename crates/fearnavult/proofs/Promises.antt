@@ -19,6 +19,7 @@ use Rattle.running_digest.specs.Calls.{Feeds}
 use Rattle.running_digest.proofs.Promises.{feeds-once}
 use Rattle.location_identifier.specs.Calls.{WritesLocation, IdentifiesLocation}
 use Rattle.allele_identifier.specs.Calls.{WritesAllele, IdentifiesAllele}
+use Rattle.allele_identifier.proofs.Promises.{identifies-allele-once}
 use Rattle.entry.specs.Calls.{Enters}
 use Rattle.blank.specs.Calls.{Blanks}
 use Rattle.register.specs.Calls.{Withdraws, Undoes, Seals}
@@ -29,12 +30,13 @@ use Rattle.c_answers.specs.declared.FvAllele.{FvAllele}
 use Rattle.c_answers.specs.declared.FvCounted.{FvCounted}
 use Rattle.c_answers.specs.declared.FvEntered.{FvEntered}
 use Rattle.c_answers.specs.declared.FvForm.{FvForm}
+use Rattle.c_answers.specs.declared.FvIdentified.{FvIdentified}
 use Rattle.c_answers.specs.declared.FvLocation.{FvLocation}
 use Rattle.c_answers.specs.declared.FvOutcome.{FvOutcome}
 use Rattle.c_answers.specs.declared.FvUndone.{FvUndone}
 use Rattle.c_answers.specs.declared.FvWritten.{FvWritten}
 use Rattle.c_answers.specs.Flat.{flatWritten, flatForm, flatLocation, flatAllele, flatOutcome, flatEntered, flatUndone}
-use Rattle.c_answers.specs.Flat.{flatCounted, Flattened}
+use Rattle.c_answers.specs.Flat.{flatIdentified, flatCounted, Flattened}
 
 -- one answer below is one answer above
 flat-once : {A B : Type 0} (flatten : A → B) (P Q : A → Type 0) (a₁ a₂ : B) (p : Flattened flatten P a₁)
@@ -95,12 +97,13 @@ module _ (out : List ℕ) (place : ℕ) (a₁ a₂ : FvWritten) (l₁ l₂ : Lis
     unfolding WritesUnless
     flat-writes-allele-once = flat-writes-once _ _
 
-    pub flat-identifies-allele-once :
-        Flattened flatWritten (λ w. IdentifiesAllele r start end x digest out place w l₁) a₁
-        → Flattened flatWritten (λ w. IdentifiesAllele r start end x digest out place w l₂) a₂ → (a₁ ≡ a₂)
-        × (l₁ ≡ l₂)
-    unfolding WritesUnless
-    flat-identifies-allele-once = flat-writes-once _ _
+pub flat-identifies-allele-once : (r : List ℕ) (start end : ℕ) (x digest out : List ℕ) (place : ℕ)
+    (a₁ a₂ : FvIdentified) (l₁ l₂ : List ℕ)
+    → Flattened flatIdentified (λ a. IdentifiesAllele r start end x digest out place a l₁) a₁
+    → Flattened flatIdentified (λ a. IdentifiesAllele r start end x digest out place a l₂) a₂ → (a₁ ≡ a₂) × (l₁ ≡ l₂)
+flat-identifies-allele-once r start end x digest out place a₁ a₂ l₁ l₂ =
+    flat-left-once flatIdentified (λ l a. IdentifiesAllele r start end x digest out place a l) a₁ a₂ l₁ l₂
+    (λ u w. identifies-allele-once out place l₁ l₂ r start end x digest u w)
 
 pub flat-normalises-once : (r : List ℕ) (start end : ℕ) (x out : List ℕ) (place : ℕ) (a₁ a₂ : FvForm) (l₁ l₂ : List ℕ)
     → Flattened flatForm (λ a. Normalises r start end x out place a l₁) a₁

@@ -6,6 +6,7 @@ use c_answers::FvAllele;
 use c_answers::FvCounted;
 use c_answers::FvEntered;
 use c_answers::FvForm;
+use c_answers::FvIdentified;
 use c_answers::FvLocation;
 use c_answers::FvOutcome;
 use c_answers::FvUndone;
@@ -14,6 +15,7 @@ use c_answers::flat_allele;
 use c_answers::flat_counted;
 use c_answers::flat_entered;
 use c_answers::flat_form;
+use c_answers::flat_identified;
 use c_answers::flat_location;
 use c_answers::flat_outcome;
 use c_answers::flat_undone;
@@ -33,7 +35,7 @@ ghost use Rattle.entry.specs.Calls.{Enters};
 ghost use Rattle.blank.specs.Calls.{Blanks};
 ghost use Rattle.register.specs.Calls.{Withdraws, Undoes, Seals};
 ghost use Rattle.c_answers.specs.Flat.{flatWritten, flatForm, flatLocation, flatAllele, flatOutcome, flatEntered};
-ghost use Rattle.c_answers.specs.Flat.{flatCounted, flatUndone, Flattened};
+ghost use Rattle.c_answers.specs.Flat.{flatIdentified, flatCounted, flatUndone, Flattened};
 
 // As `sequence_identifier::sequence_identifier`.
 #[no_mangle]
@@ -185,13 +187,13 @@ pub extern "C" fn fv_allele_identifier(
     digest: &[u8],
     out: &mut [u8],
     place: u64,
-) -> FvWritten
+) -> FvIdentified
     ensures { λ r. ⌜
-        Flattened flatWritten
+        Flattened flatIdentified
         (λ w. IdentifiesAllele (now (reference .entry)) start end (now (replacement .entry)) (now (digest .entry))
         (now (out .entry)) place w (now (out .exit))) r ⌝ }
 {
-    flat_written(allele_identifier::allele_identifier(
+    flat_identified(allele_identifier::allele_identifier(
         reference,
         start,
         end,

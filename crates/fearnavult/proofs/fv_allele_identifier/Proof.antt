@@ -6,8 +6,8 @@ use Rattle.fearnavult.proofs.fv_allele_identifier.Tie as tie
 allele-identifier-requires : tie.Need-allele-identifier-requires
 allele-identifier-requires c κs = search needs
 
-flat-written-requires : tie.Need-flat-written-requires
-flat-written-requires c κs = search needs
+flat-identified-requires : tie.Need-flat-identified-requires
+flat-identified-requires c κs = search needs
 
 same-length : tie.Need-same-length
 same-length c = search needs
@@ -15,10 +15,10 @@ same-length c = search needs
 returns : tie.Need-returns
 returns c = record {
   below = _;
-  flat = c .flat-written .ensures;
+  flat = c .flat-identified .ensures;
   promised =
       c .before .before .before .allele-identifier .ensures;
 }
 
 pub fv-allele-identifier-spec : {M : Type 1} → statement M
-fv-allele-identifier-spec = tie.close (tie.spec allele-identifier-requires flat-written-requires same-length returns)
+fv-allele-identifier-spec = tie.close (tie.spec allele-identifier-requires flat-identified-requires same-length returns)

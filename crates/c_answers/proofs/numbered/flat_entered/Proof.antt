@@ -24,6 +24,9 @@ entered-as-requires-3 c κs = search needs
 enum-known-a-4 : tie.Need-enum-known-a-4
 enum-known-a-4 c = search needs
 
+still-requires : tie.Need-still-requires
+still-requires c κs = search needs
+
 returns : tie.Need-returns
 returns c = rw (c .before .before .a .given .1) (c .entered-as .ensures)
 
@@ -34,7 +37,7 @@ returns-3 : tie.Need-returns-3
 returns-3 c = rw (c .before .before .a3 .given .1) (c .entered-as3 .ensures)
 
 returns-4 : tie.Need-returns-4
-returns-4 c = rw (c .before .a4 .given .1)
+returns-4 c = rw (c .before .before .a4 .given .1, c .still .ensures)
 
 pub flat-entered-spec : {M : Type 1} → statement M
 flat-entered-spec =
@@ -47,6 +50,7 @@ flat-entered-spec =
     enum-known-a-3
     entered-as-requires-3
     enum-known-a-4
+    still-requires
     returns
     returns-2
     returns-3

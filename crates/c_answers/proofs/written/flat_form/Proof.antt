@@ -12,12 +12,15 @@ flat-kind-requires c κs = search needs
 enum-known-a-2 : tie.Need-enum-known-a-2
 enum-known-a-2 c = search needs
 
+still-requires : tie.Need-still-requires
+still-requires c κs = search needs
+
 returns : tie.Need-returns
 returns c = rw (c .before .before .a .given .1) (rw (c .flat-kind .ensures))
 
 returns-2 : tie.Need-returns-2
-returns-2 c = rw (c .before .a2 .given .1)
+returns-2 c = rw (c .before .before .a2 .given .1, c .still .ensures)
 
 pub flat-form-spec : {M : Type 1} → statement M
 flat-form-spec =
-    tie.close (tie.spec enum-known-a flat-kind-requires enum-known-a-2 returns returns-2)
+    tie.close (tie.spec enum-known-a flat-kind-requires enum-known-a-2 still-requires returns returns-2)
