@@ -2,7 +2,7 @@
 import model
 import published
 import texts
-from shown import outcome, shown
+from shown import moved, outcome, shown
 
 REPEAT = b"TCAGCAGCAGT"
 ACGT_DIGEST = model.digest(b"ACGT")
@@ -16,6 +16,7 @@ def normal_form_lines():
         (REPEAT, 2, 3, b"T", 2, 16), (REPEAT, 1, 5, b"CTGC", 2, 16), (REPEAT, 3, 5, b"TTT", 2, 16),
         (REPEAT, 0, 0, b"T", 2, 16), (REPEAT, 11, 11, b"A", 2, 16), (REPEAT, 0, 11, b"", 2, 16),
         (REPEAT, 1, 4, b"CAG", 2, 16), (REPEAT, 2, 2, b"", 2, 16), (b"", 0, 0, b"ACGT", 0, 16),
+        (REPEAT, 0, 4, b"TCAGCAG", 2, 16), (REPEAT, 4, 11, b"CAGCAGCAGT", 2, 16),
         (REPEAT, 9, 4, b"A", 2, 16), (REPEAT, 4, 11, b"A", 2, 16), (REPEAT, 4, 12, b"A", 2, 16),
         # positions, letters given, letters of the reference, rooms
         (REPEAT, 12, 12, b"a", 2, 16), (REPEAT, LAST_U64, 11, b"A", 2, 16), (REPEAT, LAST_U64, LAST_U64, b"A", 2, 16),
@@ -28,16 +29,16 @@ def normal_form_lines():
         (REPEAT, 0, 11, b"", 16, 16), (REPEAT, 0, 11, b"", 17, 16), (REPEAT, 0, 11, b"", 0, 0),
     ):
         given = f"{shown(reference)} {start} {end} {shown(replacement)} place {place} room {room}"
-        refusal, value, kind, *interval, length, out = model.normal_form(
+        refusal, value, kind, start, end, length, *far, out = model.normal_form(
             reference, start, end, replacement, bytes(room), place)
-        formed = "formed {} {} {} {}".format(*interval, model.KINDS[kind], shown(out[place:place + length]))
+        formed = f"formed {start} {end} {model.KINDS[kind]} {shown(out[place:place + length])}{moved(*far)}"
         yield f"normal-form {given} " + outcome(refusal, value, formed)
 
 
 def written(call, *arguments):
-    """What the call answers where it has room for what it writes."""
-    refusal, value, length, out = call(*arguments, bytes(160), 0)
-    return outcome(refusal, value, f"written {length} {shown(out[:length])}")
+    """What the call answers where it has room for what it writes; some calls say how far the interval moved."""
+    refusal, value, length, *far, out = call(*arguments, bytes(160), 0)
+    return outcome(refusal, value, f"written {length} {shown(out[:length])}" + (moved(*far) if far else ""))
 
 
 def location_read(text):

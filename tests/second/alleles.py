@@ -2,7 +2,7 @@
 
 Each of these lies on its reference and is of residues; whoever wants a refusal spoils one.
 """
-from itertools import product
+from itertools import combinations_with_replacement, product
 
 LETTERS = b"ACGT"
 # A comparison may take 8 or more bytes at a step, and turn where a block of them ends.
@@ -29,6 +29,15 @@ def every_on(reference, replacements):
         for start in range(end + 1):
             for replacement in replacements:
                 yield reference, start, end, replacement
+
+
+def every_way(reference, made):
+    """Every allele on the reference that makes this sequence of it."""
+    n, m = len(reference), len(made)
+    for start, end in combinations_with_replacement(range(n + 1), 2):
+        after = n - end
+        if start + after <= m and made[:start] == reference[:start] and made[m - after:] == reference[end:]:
+            yield start, end, made[start:m - after]
 
 
 def residues(rng, length, alphabet=LETTERS):
@@ -121,3 +130,15 @@ def long_rolls():
                 yield reference, start, start, unit
             yield reference, end - size, end, b""
             yield reference, end, end, reference[end - size:end]
+
+
+def long_moves():
+    """A letter comes in, and each side of the interval moves by more than 16 bits can say: over a run of that letter it
+    widens, over a stretch that is given with the letter it shrinks."""
+    left, right = b"AC" * 35_000, b"GT" * 40_000
+    run_before, run_behind = b"N" * len(left), b"N" * len(right)
+    start, end = len(left), len(left) + len(right)
+    yield run_before + run_behind, start, start, b"N"
+    yield run_before + right, start, end, b"N" + right
+    yield left + run_behind, 0, start, left + b"N"
+    yield left + right, 0, end, left + b"N" + right

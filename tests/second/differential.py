@@ -17,21 +17,25 @@ from read_cases import read_allele_cases, read_location_cases
 from register_cases import register_cases
 from running_cases import running_cases
 from sequence_cases import sequence_identifier_cases
+from shapes import SHAPES
 from text_cases import allele_identifier_cases, allele_text_cases, location_identifier_cases, location_text_cases
 from vcf_cases import vcf_cases
 from vcf_molecules import vcf_molecule_cases
 
-# seed, cases, and for each call the outcomes that they have to meet: accepted, and refusals by number
+# Every entry in every shape.
+ENTERED = {f"{found} {shape}" for found in ("new", "again", "known") for shape in SHAPES}
+# seed, cases, and for each call the outcomes that they have to meet: accepted, in its shapes where it has them, and
+# refusals by number
 SUITES = (
     (40, full_cases, {
         "fv_sequence_identifier": {"accepted", 4},
         "fv_running_* in a row": {"accepted"},
         "fv_normal_form": {6},
         "fv_allele_text": {6},
-        "fv_allele_identifier": {"accepted"},
+        "fv_allele_identifier": {"widened-widened"},
         "fv_read_allele": {"accepted", 8},
         "fv_entry": {14},
-        "fv_vcf_form": {"accepted", 6, 20},
+        "fv_vcf_form": {"kept-kept", 6, 20},
     }),
     (41, sequence_identifier_cases, {"fv_sequence_identifier": {"accepted", 1, 4, 6}}),
     (42, running_cases, {
@@ -40,35 +44,35 @@ SUITES = (
         "fv_running_finish": {"accepted", 1, 6},
         "fv_running_* in a row": {"accepted", 6},
     }),
-    (43, normal_form_cases, {"fv_normal_form": {"accepted", 1, 2, 3, 4, 5, 6}}),
+    (43, normal_form_cases, {"fv_normal_form": {*SHAPES, 1, 2, 3, 4, 5, 6}}),
     (44, location_text_cases, {"fv_location_text": {"accepted", 1, 2, 3, 6, 7}}),
     (45, location_identifier_cases, {"fv_location_identifier": {"accepted", 1, 2, 3, 6, 7}}),
     (46, allele_text_cases, {"fv_allele_text": {"accepted", 1, 2, 3, 4, 5, 6, 7}}),
-    (47, allele_identifier_cases, {"fv_allele_identifier": {"accepted", 1, 2, 3, 4, 5, 6, 7}}),
+    (47, allele_identifier_cases, {"fv_allele_identifier": {*SHAPES, 1, 2, 3, 4, 5, 6, 7}}),
     (48, read_location_cases, {"fv_read_location": {"accepted", 8}}),
     (49, read_allele_cases, {"fv_read_allele": {"accepted", 8}}),
     (50, blank_cases, {"fv_blank": {"accepted", 1, 7, 9}}),
     (51, register_cases, {
-        "fv_entry": {"new", "again", "known", 1, 2, 3, 4, 5, 10, 11, 12, 13, 14, 15},
+        "fv_entry": {*ENTERED, 1, 2, 3, 4, 5, 10, 11, 12, 13, 14, 15},
         "fv_withdraw": {"accepted", 15, 16, 17},
         "fv_undo": {"accepted", 18},
         "fv_seal": {"accepted", 10},
     }),
     (52, history_cases, {
         "fv_blank": {"accepted"},
-        "fv_entry": {"new", "again", "known", 1, 2, 3, 4, 5, 11, 12, 13, 14, 15},
+        "fv_entry": {*ENTERED, 1, 2, 3, 4, 5, 11, 12, 13, 14, 15},
         "fv_withdraw": {"accepted", 15, 16, 17},
         "fv_undo": {"accepted", 18},
         "fv_seal": {"accepted"},
     }),
     (53, damage_cases, {
-        "fv_entry": {"new", "again", "known", 10, 11, 13, 14, 15},
+        "fv_entry": {"new widened-widened", "again widened-widened", "known widened-widened", 10, 11, 13, 14, 15},
         "fv_withdraw": {"accepted", 10, 15, 16, 17},
         "fv_undo": {"accepted", 10, 18},
         "fv_seal": {"accepted", 10},
     }),
-    (54, vcf_cases, {"fv_vcf_count": {"accepted", 1, 19, 20}, "fv_vcf_form": {"accepted", 1, 6, 19, 20, 21}}),
-    (55, vcf_molecule_cases, {"fv_vcf_count": {"accepted"}, "fv_vcf_form": {"accepted"}}),
+    (54, vcf_cases, {"fv_vcf_count": {"accepted", 1, 19, 20}, "fv_vcf_form": {*SHAPES, 1, 6, 19, 20, 21}}),
+    (55, vcf_molecule_cases, {"fv_vcf_count": {"accepted"}, "fv_vcf_form": SHAPES}),
 )
 # So many suites run at a time. Each has its own seed, so that it makes the same calls in any company.
 SIDE_BY_SIDE = 2

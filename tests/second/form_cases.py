@@ -6,6 +6,8 @@ import model
 from arguments import (every_foreign, every_interval, far, foreign_units, letters, marred, room_and_place, some_extreme,
                        with_byte)
 from exchange import Case, Untouched
+from model import UNMOVED
+from shapes import shape
 
 
 def normal_form(reference, start, end, replacement, out, place):
@@ -14,7 +16,8 @@ def normal_form(reference, start, end, replacement, out, place):
 
 
 def normal_form_case(reference, start, end, replacement, out, place, answer, after):
-    return Case("fv_normal_form", b"n", (start, end, place), (reference, replacement, out), tuple(answer), (after,))
+    return Case("fv_normal_form", b"n", (start, end, place), (reference, replacement, out), tuple(answer), (after,),
+                shape(answer))
 
 
 def placed(rng, reference, start, end, replacement):
@@ -63,8 +66,8 @@ def beside_zeros(rng, reference, replacement):
         kind = model.SUBSTITUTION if start < end else model.INDEL
         out = rng.randbytes(length + 2)
         after = model.written(out, 1, replacement)
-        yield normal_form_case(*allele, out, 1, (0, 0, kind, start, end, length), after)
-        yield normal_form_case(*allele, out, 3, (6, length, 0, 0, 0, 0), out)
+        yield normal_form_case(*allele, out, 1, (0, 0, kind, start, end, length, *UNMOVED), after)
+        yield normal_form_case(*allele, out, 3, (6, length, 0, 0, 0, 0, *UNMOVED), out)
 
 
 def nothing_beside_zeros(reference):
@@ -72,10 +75,11 @@ def nothing_beside_zeros(reference):
     then rolled over, and is not of residues."""
     n = len(reference)
     for start in (0, n // 2, n):
-        yield normal_form_case(reference, start, start, b"", b"", 0, (0, 0, model.UNCHANGED, start, start, 0), b"")
-    yield normal_form_case(reference, 0, n, b"", b"", 0, (0, 0, model.INDEL, 0, n, 0), b"")
+        unchanged = 0, 0, model.UNCHANGED, start, start, 0, *UNMOVED
+        yield normal_form_case(reference, start, start, b"", b"", 0, unchanged, b"")
+    yield normal_form_case(reference, 0, n, b"", b"", 0, (0, 0, model.INDEL, 0, n, 0, *UNMOVED), b"")
     for start in (0, n // 2, n - 1):
-        yield normal_form_case(reference, start, start + 1, b"", b"", 0, (5, 0, 0, 0, 0, 0), b"")
+        yield normal_form_case(reference, start, start + 1, b"", b"", 0, (5, 0, 0, 0, 0, 0, *UNMOVED), b"")
 
 
 def extreme_numbers(rng):
@@ -88,7 +92,7 @@ def extreme_numbers(rng):
 def normal_form_cases(rng):
     for allele in chain(alleles.every_small(7), alleles.every_small(5, b"ACG", 2), every_foreign(5), every_interval()):
         yield normal_form(*allele, rng.randbytes(13), 3)
-    for allele in chain(alleles.long_rolls(), foreign_units()):
+    for allele in chain(alleles.long_rolls(), alleles.long_moves(), foreign_units()):
         yield placed(rng, *allele)
     for _ in range(20_000):
         yield placed(rng, *alleles.any_allele(rng))

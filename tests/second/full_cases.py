@@ -20,7 +20,7 @@ LONGEST = Repeated(b"A", LIMIT)
 FOREIGN_LAST = Repeated(b"A", LIMIT - 1, tail=b"a")
 # As many letters as may be given, put into the longest reference, are rolled over all of it: the normal form is from
 # 0 to its end, with RESIDUES_LIMIT letters.
-INSERTION = LONGEST, LIMIT // 2, LIMIT // 2, b"A" * model.REPLACEMENT_LIMIT
+INSERTION = LONGEST, LIMIT // 3, LIMIT // 3, b"A" * model.REPLACEMENT_LIMIT
 
 
 @lru_cache
@@ -62,7 +62,7 @@ def in_parts(rng):
 def normal_forms():
     """Without room for the normal replacement."""
     reference, start, end, replacement = INSERTION
-    answer = 6, RESIDUES_LIMIT, 0, 0, 0, 0
+    answer = 6, RESIDUES_LIMIT, 0, 0, 0, 0, *model.UNMOVED
     yield Case("fv_normal_form", b"n", (start, end, 0), (reference, replacement, b""), answer, (b"",))
 
 
@@ -73,7 +73,9 @@ def alleles_said(rng):
     yield ALLELE_TEXT.expecting((*INSERTION, digest, b"", 0), (6, len(text), 0), b"")
     out = rng.randbytes(43)
     after = model.written(out, 1, b"ga4gh:VA." + model.digest(*text.pieces()))
-    yield ALLELE_IDENTIFIER.expecting((*INSERTION, digest, out, 1), (0, 0, 41), after)
+    _, start, end, _ = INSERTION
+    moved = start, 0, LIMIT - end, 0
+    yield ALLELE_IDENTIFIER.expecting((*INSERTION, digest, out, 1), (0, 0, 41, *moved), after)
 
 
 def entries(rng):
@@ -86,10 +88,10 @@ def entries(rng):
 def vcf_forms(rng):
     """A residue in the place of the last one; a REF that runs past the end; and letters that come in, without room."""
     out, most = rng.randbytes(3), model.REPLACEMENT_LIMIT
-    accepted = 0, 0, model.SUBSTITUTION, LIMIT - 1, LIMIT, 1
+    accepted = 0, 0, model.SUBSTITUTION, LIMIT - 1, LIMIT, 1, *model.UNMOVED
     for ref, alt, answer, after in ((b"a", b"c", accepted, model.written(out, 1, b"C")),
-                                    (b"aA", b"c", (20, 1, 0, 0, 0, 0), out),
-                                    (b"A", b"a" * most, (6, LIMIT + most - 1, 0, 0, 0, 0), out)):
+                                    (b"aA", b"c", (20, 1, 0, 0, 0, 0, *model.UNMOVED), out),
+                                    (b"A", b"a" * most, (6, LIMIT + most - 1, 0, 0, 0, 0, *model.UNMOVED), out)):
         yield form_case(LONGEST, line(LIMIT, ref, alt), 1, out, 1, answer, after)
 
 

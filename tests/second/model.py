@@ -31,6 +31,18 @@ class Form(NamedTuple):
     replacement: bytes
 
 
+class Moved(NamedTuple):
+    """By how many residues the normal interval widened past the given one, and by how many it shrank, on each side."""
+
+    left_widened: int
+    left_shrunk: int
+    right_widened: int
+    right_shrunk: int
+
+
+UNMOVED = Moved(0, 0, 0, 0)
+
+
 def first_outside(alphabet, text):
     """The offset of the first byte of text that is not in the alphabet, or None."""
     inside = len(text) - len(text.lstrip(alphabet))
@@ -123,6 +135,12 @@ def form(reference, start, end, replacement):
     return Form(SUBSTITUTION if p + q < k else INDEL, a, n - b, made[a:m - b])
 
 
+def moved(start, end, normal):
+    """How far the normal interval moved from the given one."""
+    return Moved(max(0, start - normal.start), max(0, normal.start - start),
+                 max(0, normal.end - end), max(0, end - normal.end))
+
+
 def offered(reference, start, end, replacement):
     """An allele is given on a reference: the refusals that come before its normal form."""
     if len(reference) > REFERENCE_LIMIT:
@@ -152,11 +170,13 @@ def formed(reference, start, end, replacement):
 
 
 def normal_form(reference, start, end, replacement, out, place):
-    """Refusal, value, kind, start, end, length of the normal replacement, and the buffer afterwards."""
+    """Refusal, value, kind, start, end, length of the normal replacement, how far the interval moved, and the buffer
+    afterwards."""
     refusal, value, normal = formed(reference, start, end, replacement)
     if refusal == 0 and no_room(len(out), place, len(normal.replacement)):
         refusal, value = 6, len(normal.replacement)
     if refusal != 0:
-        return refusal, value, 0, 0, 0, 0, out
-    kind, start, end, text = normal
-    return 0, 0, kind, start, end, len(text), written(out, place, text)
+        return refusal, value, 0, 0, 0, 0, *UNMOVED, out
+    text = normal.replacement
+    return (0, 0, normal.kind, normal.start, normal.end, len(text), *moved(start, end, normal),
+            written(out, place, text))

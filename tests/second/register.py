@@ -132,22 +132,29 @@ def blank(image, residues, digest, records, journal, pool):
 
 
 def entry(image, digest, reference, start, end, replacement):
-    """Refusal, value, how the allele was found, its number, and the image afterwards."""
+    """Refusal, value, how the allele was found, its number, how far its interval moved, and the image afterwards."""
     register = read(image)
     if register is None:
-        return 10, 0, 0, 0, image
+        return 10, 0, 0, 0, *model.UNMOVED, image
     if digest != register.digest:
-        return 11, 0, 0, 0, image
+        return 11, 0, 0, 0, *model.UNMOVED, image
     if len(reference) != register.residues:
-        return 11, 1, 0, 0, image
+        return 11, 1, 0, 0, *model.UNMOVED, image
     refusal, value, form = model.formed(reference, start, end, replacement)
     if refusal != 0:
-        return refusal, value, 0, 0, image
-    return entry_of(image, form)
+        return refusal, value, 0, 0, *model.UNMOVED, image
+    return entry_of(image, start, end, form)
 
 
-def entry_of(image, form):
-    """The entry of a normal form into a well-formed image that is of its reference."""
+def entry_of(image, start, end, form):
+    """The same for a normal form that was given on this interval, and a well-formed image that is of its reference."""
+    refusal, value, found, number, after = numbered(image, form)
+    moved = model.moved(start, end, form) if refusal == 0 else model.UNMOVED
+    return refusal, value, found, number, *moved, after
+
+
+def numbered(image, form):
+    """The entry but for how far it moved, which no record says."""
     if form.kind == model.UNCHANGED:
         return 12, 0, 0, 0, image
     register = read(image)

@@ -1,6 +1,7 @@
 """A call to the register with its expected answer, for each of the five."""
 import register
 from exchange import Case
+from shapes import shape
 
 
 def blank(image, residues, digest, records, journal, pool):
@@ -15,14 +16,15 @@ def entry(image, digest, reference, start, end, replacement):
 
 def entry_as(image, digest, reference, start, end, replacement, form):
     """An entry on a reference too long to be compared here, where the normal form is known otherwise."""
-    return entry_case(image, digest, reference, start, end, replacement, register.entry_of(image, form))
+    said = register.entry_of(image, start, end, form)
+    return entry_case(image, digest, reference, start, end, replacement, said)
 
 
 def entry_case(image, digest, reference, start, end, replacement, said):
     *answer, after = said
-    _, _, found, _ = answer
+    _, _, found, *_ = answer
     return Case("fv_entry", b"e", (start, end), (image, digest, reference, replacement), tuple(answer), (after,),
-                register.FOUND.get(found))
+                f"{register.FOUND.get(found)} {shape(answer)}")
 
 
 def withdraw(image, number):

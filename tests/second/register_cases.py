@@ -4,6 +4,7 @@ The images here are small, and most are of document 01's reference.
 """
 from itertools import chain, product
 
+import alleles
 import model
 from arguments import FAR_POSITIONS, every_foreign, every_interval, extreme, some_extreme, with_byte
 from exchange import Untouched
@@ -73,6 +74,22 @@ def held_more_than_once(rng):
             for number in range(len(issued) + 2):
                 yield withdraw(image, number)
             yield undo(image)
+
+
+def every_way(rng):
+    """One molecule in every way that it can be given, with no record of it, an inactive one and an active one."""
+    for allele in (INSERTION, SUBSTITUTION, DELETION, (1, 4, b"")):
+        made = model.altered(REPEAT, *allele)
+        for issued in ((), (recorded(allele, INACTIVE),), (recorded(allele),)):
+            image = image_of(rng, Register(2, 2, 30, len(REPEAT), DIGEST, issued))
+            for way in alleles.every_way(REPEAT, made):
+                yield on_repeat(image, way)
+
+
+def moved_far(rng):
+    for reference, *allele in alleles.long_moves():
+        image = image_of(rng, Register(1, 1, 200_000, len(reference), DIGEST))
+        yield entry(image, DIGEST, reference, *allele)
 
 
 def beside_the_form(rng):
@@ -155,6 +172,6 @@ def entered_positions(rng):
 
 
 def register_cases(rng):
-    for cases in (held_more_than_once, beside_the_form, not_in_normal_form, any_room, orders, withdrawal_numbers,
-                  entered_positions, large_cases):
+    for cases in (held_more_than_once, every_way, moved_far, beside_the_form, not_in_normal_form, any_room, orders,
+                  withdrawal_numbers, entered_positions, large_cases):
         yield from cases(rng)

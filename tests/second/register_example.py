@@ -2,6 +2,7 @@
 import model
 import register
 import texts
+from shown import sides
 
 REPEAT = b"TCAGCAGCAGT"
 DIGEST = model.digest(REPEAT)
@@ -20,10 +21,10 @@ def blank(_):
 
 def enter(start, end, replacement):
     def call(image):
-        refusal, value, found, number, after = register.entry(image, DIGEST, REPEAT, start, end, replacement)
+        refusal, value, found, number, *moved, after = register.entry(image, DIGEST, REPEAT, start, end, replacement)
         *_, identifier = texts.allele_identifier(REPEAT, start, end, replacement, DIGEST, bytes(41), 0)
         tell(f"{start} {end} {replacement.decode()}, enter", refusal, value,
-             f"{register.FOUND.get(found)}, number {number}, {identifier.decode()}")
+             f"{register.FOUND.get(found)}, number {number}, {identifier.decode()}{sides(*moved)}")
         return after
     return call
 
@@ -52,7 +53,8 @@ def main():
     *_, identifier = model.sequence_identifier(REPEAT, bytes(41), 0)
     print(f"{REPEAT.decode()}: {identifier.decode()}")
     image = UNWRITTEN
-    for call in (blank, enter(4, 4, b"CAG"), enter(1, 2, b"CAGC"), enter(1, 4, b"CAG"), withdraw(1), undo, seal, undo):
+    for call in (blank, enter(4, 4, b"CAG"), enter(1, 2, b"CAGC"), enter(0, 4, b"TCAGCAG"), enter(1, 4, b"CAG"),
+                 withdraw(1), undo, seal, undo):
         image = call(image)
 
 

@@ -5,7 +5,7 @@ A line for each call with its answer, then the buffer: 143 bytes that the image 
 """
 import model
 import register
-from shown import outcome
+from shown import moved, outcome
 
 REPEAT = b"TCAGCAGCAGT"
 DIGEST = model.digest(REPEAT)
@@ -19,9 +19,9 @@ def blank(image):
 
 def entry(start, end, replacement):
     def call(image):
-        refusal, value, found, number, after = register.entry(image, DIGEST, REPEAT, start, end, replacement)
+        refusal, value, found, number, *far, after = register.entry(image, DIGEST, REPEAT, start, end, replacement)
         given = f"entry {start} {end} {replacement.decode('ascii')} "
-        return given + outcome(refusal, value, f"{register.FOUND.get(found)} {number}"), after
+        return given + outcome(refusal, value, f"{register.FOUND.get(found)} {number}{moved(*far)}"), after
     return call
 
 

@@ -1,4 +1,4 @@
-"""A text and an answer, as the programs that print test vectors show them."""
+"""A text and an answer, as the programs that print test vectors and the example programs show them."""
 
 
 def shown(text):
@@ -8,3 +8,15 @@ def shown(text):
 
 def outcome(refusal, value, accepted):
     return accepted if refusal == 0 else f"refused {refusal} {value}"
+
+
+def moved(*numbers):
+    """How far an interval moved, behind an accepted answer."""
+    return " moved {} {} {} {}".format(*numbers)
+
+
+def sides(left_widened, left_shrunk, right_widened, right_shrunk):
+    """The same in words, of the sides that moved."""
+    said = (("left widened", left_widened), ("left shrunk", left_shrunk),
+            ("right widened", right_widened), ("right shrunk", right_shrunk))
+    return "".join(f", {what} by {residues}" for what, residues in said if residues)

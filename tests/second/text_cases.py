@@ -9,6 +9,7 @@ import texts
 from arguments import (FAR_POSITIONS, every_foreign, every_interval, far, foreign_units, letters, marred,
                        room_and_place, some_extreme, with_byte)
 from exchange import Case, Untouched
+from shapes import shape
 
 BASE64URL = sorted(model.BASE64URL)
 REPEAT = b"TCAGCAGCAGT"
@@ -22,11 +23,13 @@ class Call(NamedTuple):
     code: bytes
     says: Callable  # the model's answer
     writes: Callable  # what is written where this text is made
+    unmoved: tuple = ()  # what is answered behind the length where the interval has not moved
 
     def expecting(self, arguments, answer, after):
         numbers = tuple(x for x in arguments if isinstance(x, int))
         slices = tuple(x for x in arguments if not isinstance(x, int))
-        return Case(self.name, self.code, numbers, slices, tuple(answer), (after,))
+        accepted = shape(answer) if self.unmoved else "accepted"
+        return Case(self.name, self.code, numbers, slices, tuple(answer), (after,), accepted)
 
     def case(self, *arguments):
         *answer, after = self.says(*arguments)
@@ -50,7 +53,7 @@ def itself(text):
 LOCATION_TEXT = Call("fv_location_text", b"L", texts.location_text, itself)
 LOCATION_IDENTIFIER = Call("fv_location_identifier", b"l", texts.location_identifier, texts.location_named)
 ALLELE_TEXT = Call("fv_allele_text", b"A", texts.allele_text, itself)
-ALLELE_IDENTIFIER = Call("fv_allele_identifier", b"a", texts.allele_identifier, texts.allele_named)
+ALLELE_IDENTIFIER = Call("fv_allele_identifier", b"a", texts.allele_identifier, texts.allele_named, model.UNMOVED)
 
 
 def some_digest(rng):
@@ -144,11 +147,11 @@ def as_given(rng, call, reference, start, end, replacement):
 
 
 def standing(rng, call, given, text):
-    """The call with these arguments, which makes this text: with room for it, and without."""
+    """The call with these arguments, which makes this text of the interval given: with room for it, and without."""
     made = call.writes(text)
     out = rng.randbytes(len(made) + 2)
-    yield call.expecting((*given, out, 1), (0, 0, len(made)), model.written(out, 1, made))
-    yield call.expecting((*given, out, 3), (6, len(made), 0), out)
+    yield call.expecting((*given, out, 1), (0, 0, len(made), *call.unmoved), model.written(out, 1, made))
+    yield call.expecting((*given, out, 3), (6, len(made), 0, *call.unmoved), out)
 
 
 def published_alleles(rng, call):
@@ -183,7 +186,7 @@ def long_alleles(rng, call):
 
 def allele_cases(call, rng):
     every = alleles.every_small(6), alleles.every_small(4, b"ACG", 2), every_foreign(4), every_interval()
-    for allele in chain(*every, alleles.long_rolls(), foreign_units()):
+    for allele in chain(*every, alleles.long_rolls(), alleles.long_moves(), foreign_units()):
         yield call.placed(rng, *allele, some_digest(rng))
     for _ in range(8000):
         reference, start, end, replacement = alleles.any_allele(rng)

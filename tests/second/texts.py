@@ -88,8 +88,12 @@ def allele_text(reference, start, end, replacement, digest, out, place):
 
 
 def allele_identifier(reference, start, end, replacement, digest, out, place):
+    """Refusal, value, length, how far the normal interval moved, and the buffer afterwards."""
     refusal, value, text = serialized(reference, start, end, replacement, digest)
-    return written(refusal, value, allele_named(text), out, place)
+    refusal, value, length, after = written(refusal, value, allele_named(text), out, place)
+    if refusal != 0:
+        return refusal, value, 0, *model.UNMOVED, after
+    return 0, 0, length, *model.moved(start, end, model.form(reference, start, end, replacement)), after
 
 
 def accepted_location(text):

@@ -54,8 +54,9 @@ def allele(reference, line, alternate):
 
 
 def form(reference, line, alternate, out, place):
-    """Refusal, value, kind, start, end, length of the normal replacement, and the buffer afterwards."""
+    """Refusal, value, kind, start, end, length of the normal replacement, how far the line's own interval moved, and
+    the buffer afterwards."""
     refusal, value, given = allele(reference, line, alternate)
     if refusal != 0:
-        return refusal, value, 0, 0, 0, 0, out
+        return refusal, value, 0, 0, 0, 0, *model.UNMOVED, out
     return model.normal_form(reference, *given, out, place)

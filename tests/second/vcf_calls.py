@@ -2,6 +2,7 @@
 import vcf
 from arguments import room_and_place
 from exchange import Case
+from shapes import shape
 
 
 def line(pos, ref, alt, chrom=b"chr1", identifier=b".", rest=()):
@@ -19,7 +20,8 @@ def form(reference, text, alternate, out, place):
 
 
 def form_case(reference, text, alternate, out, place, answer, after):
-    return Case("fv_vcf_form", b"v", (alternate, place), (reference, text, out), tuple(answer), (after,))
+    return Case("fv_vcf_form", b"v", (alternate, place), (reference, text, out), tuple(answer), (after,),
+                shape(answer))
 
 
 def needed(reference, text, alternate):

@@ -214,7 +214,7 @@ def long_lines(rng):
     many = Untouched(100_000_000)
     for reference, refusal in ((REPEAT, 19), (Untouched(LIMIT), 19), (Untouched(LIMIT + 1), 1)):
         yield Case("fv_vcf_count", b"c", (), (reference, many), (refusal, 0, 0), ())
-        yield form_case(reference, many, 1, b"AC", 0, (refusal, 0, 0, 0, 0, 0), b"AC")
+        yield form_case(reference, many, 1, b"AC", 0, (refusal, 0, 0, 0, 0, 0, *model.UNMOVED), b"AC")
     yield from every_call(rng, REPEAT, line(4, b"G", b"GCAG,T", rest=[rng.randbytes(1_000_000)]))
     for n in (LIMIT, LIMIT + 1):
         for pos, ref in product((1, n - 1, n, n + 1, LIMIT, 2 * LIMIT), (b"A", b"AAA", b"", b"*")):
@@ -283,5 +283,6 @@ def vcf_cases(rng):
     for cases in (files, alternates, many_places, columns, positions, references, long_references, long_columns,
                   every_room, every_byte, orders, breakends, long_alternates, long_lines, garbage, extreme_numbers):
         yield from cases(rng)
-    small = alleles.every_small(5, most=2), alleles.every_small(3, b"ACG", 2), alleles.long_rolls()
-    yield from lines_of(rng, chain(*small, (alleles.any_allele(rng) for _ in range(12_000))))
+    small = alleles.every_small(5, most=2), alleles.every_small(3, b"ACG", 2)
+    long = alleles.long_rolls(), alleles.long_moves()
+    yield from lines_of(rng, chain(*small, *long, (alleles.any_allele(rng) for _ in range(12_000))))

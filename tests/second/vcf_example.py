@@ -2,6 +2,7 @@
 import model
 import register
 import vcf
+from shown import sides
 
 REPEAT = b"TCAGCAGCAGT"
 DIGEST = model.digest(REPEAT)
@@ -25,12 +26,12 @@ def taken(image, line, alternate):
     """What is said of an alternate, and the image after it. It is entered as the line gives it."""
     refusal, value, allele = vcf.allele(REPEAT, line, alternate)
     if refusal == 0:
-        refusal, value, found, number, image = register.entry(image, DIGEST, REPEAT, *allele)
+        refusal, value, found, number, *moved, image = register.entry(image, DIGEST, REPEAT, *allele)
     if refusal != 0:
         return f"refused {refusal}, {value}", image
     normal = model.form(REPEAT, *allele)
-    return (f"{register.FOUND[found]}, number {number}, {normal.start} to {normal.end}, {normal.replacement.decode()}",
-            image)
+    return (f"{register.FOUND[found]}, number {number}, {normal.start} to {normal.end}, {normal.replacement.decode()}"
+            + sides(*moved), image)
 
 
 def main():

@@ -39,7 +39,9 @@ def form(reference, line, alternate):
         refusal, value, normal = model.formed(reference, *allele)
     if refusal != 0:
         return f"refused {refusal} {value}"
-    return f"{normal.start} {normal.end} {model.KINDS[normal.kind]} {shown(normal.replacement)}"
+    start, end, _ = allele
+    moved = " ".join(map(str, model.moved(start, end, normal)))
+    return f"{normal.start} {normal.end} {model.KINDS[normal.kind]} {shown(normal.replacement)} {moved}"
 
 
 def main(fasta, lines):

@@ -65,7 +65,7 @@ def interval_for(rng, reference, molecules):
 
 def held(reference, made, answer, out, forms):
     """Keeps the form of a molecule; it has to make that molecule, and to be the only one."""
-    _, _, kind, start, end, length = answer
+    _, _, kind, start, end, length, *_ = answer
     found = start, end, out[:length]
     if model.altered(reference, *found) != made:
         raise Disagreement(f"{found} does not make {made!r} of {reference!r}")

@@ -5,8 +5,8 @@
  *
  * The reference of a line is the FASTA file's of the name that CHROM has, or an empty one where it has none of that
  * name. The first five columns of each data line are printed, parted by spaces, with the count of the places or the
- * refusal; then, for each place, start, end, kind and replacement of the normal form (`.` for an empty one), or the
- * refusal. A refusal is its number and its value.
+ * refusal; then, for each place, start, end, kind and replacement of the normal form (`.` for an empty one) and its
+ * four numbers, or the refusal. A refusal is its number and its value.
  */
 #include <stdint.h>
 #include <stdio.h>
@@ -89,8 +89,9 @@ static void print_form(text reference, text line, uint64_t alternate) {
     if (f.refusal != 0)
         printf("refused %d %d\n", (int)f.refusal, (int)f.value);
     else
-        printf("%d %d %s %.*s\n", (int)f.start, (int)f.end, kinds[f.kind], f.length > 0 ? (int)f.length : 1,
-               f.length > 0 ? (const char *)out : ".");
+        printf("%d %d %s %.*s %d %d %d %d\n", (int)f.start, (int)f.end, kinds[f.kind],
+               f.length > 0 ? (int)f.length : 1, f.length > 0 ? (const char *)out : ".", (int)f.left_widened,
+               (int)f.left_shrunk, (int)f.right_widened, (int)f.right_shrunk);
 }
 
 static void print_line(text reference, text line) {

@@ -1,9 +1,11 @@
 // Normal forms: document 01's worked alleles, and each refusal that short slices can meet, at its
 // boundary.
+use moved::Moved;
 use normal_form::Kind;
 use normal_form_calls::Form;
 use normal_form_calls::Normalised;
 use printer::labelled;
+use printer::moved;
 use printer::part;
 use printer::refused;
 use printer::shown;
@@ -18,17 +20,18 @@ fn kind_name(kind: Kind) {
     }
 }
 
-fn form(out: &[u8], place: u64, found: Form) {
+fn form(out: &[u8], place: u64, found: Form, by: Moved) {
     labelled(b" formed ", found.start);
     labelled(b" ", found.end);
     let kind = found.kind;
     kind_name(kind);
     shown(part(out, place, found.length));
+    moved(by);
 }
 
 fn answered(out: &[u8], place: u64, found: Normalised) {
     match found {
-        Normalised::Accepted(normal) => form(out, place, normal),
+        Normalised::Accepted(normal, by) => form(out, place, normal, by),
         Normalised::Refused(r) => refused(r),
     }
     text(b"\n");
@@ -70,7 +73,7 @@ fn worked(start: u64, end: u64, replacement: &[u8]) {
     in_room(b"TCAGCAGCAGT", start, end, replacement, 2, 16);
 }
 
-// Cases 1 to 12.
+// Cases 1 to 12, and two that widen on one side and shrink on the other.
 fn forms() {
     worked(4, 4, b"CAG");
     worked(1, 2, b"CAGC");
@@ -84,6 +87,8 @@ fn forms() {
     worked(1, 4, b"CAG");
     worked(2, 2, b"");
     in_room(b"", 0, 0, b"ACGT", 0, 16);
+    worked(0, 4, b"TCAGCAG");
+    worked(4, 11, b"CAGCAGCAGT");
 }
 
 // Cases 13 and 14, and what is given out of order, past the end or foreign.

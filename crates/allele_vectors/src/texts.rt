@@ -1,8 +1,11 @@
 // Texts and identifiers: of the locations and alleles that source document 001 publishes, and of
 // alleles of document 01; and what reading each text answers.
 use crate::readings;
+use allele_identifier::Identified;
 use printer::labelled;
+use printer::moved;
 use printer::part;
+use printer::refused;
 use printer::shown;
 use printer::text;
 use printer::two;
@@ -125,6 +128,16 @@ fn allele_text_line(reference: &[u8], start: u64, end: u64, replacement: &[u8], 
     readings::allele(front(&space, answer));
 }
 
+fn identified_text(out: &[u8], answer: Identified) {
+    match answer {
+        Identified::Bytes(count, by) => {
+            written_text(out, 0, Written::Bytes(count));
+            moved(by);
+        }
+        Identified::Refused(r) => refused(r),
+    }
+}
+
 fn allele_identifier_line(
     reference: &[u8],
     start: u64,
@@ -150,7 +163,7 @@ fn allele_identifier_line(
         replacement,
         digest,
     );
-    written_text(&space, 0, answer);
+    identified_text(&space, answer);
     text(b"\n");
 }
 

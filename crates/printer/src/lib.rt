@@ -1,6 +1,7 @@
 // The parts of a line of test vectors, on standard output, for the programs that print them: `digest_vectors`,
 // `allele_vectors` and `register_vectors`.
 use libc::STDOUT_FILENO;
+use moved::Moved;
 use refusal::Outcome;
 use refusal::Refusal;
 use refusal::Written;
@@ -61,6 +62,14 @@ pub fn hex(s: &[u8]) {
 pub fn refused(r: Refusal) {
     labelled(b" refused ", r.number);
     labelled(b" ", r.value);
+}
+
+// How far a form moved.
+pub fn moved(by: Moved) {
+    labelled(b" moved ", by.left.widened);
+    labelled(b" ", by.left.shrunk);
+    labelled(b" ", by.right.widened);
+    labelled(b" ", by.right.shrunk);
 }
 
 pub fn outcome(answer: Outcome) {

@@ -1,8 +1,10 @@
 // Prints document 01's register example: each call and its answer on a line, then the buffer. They have
 // to be those of the file stdout, which a second program makes, tests/second/register_vectors.py.
 use form_entry::Entered;
+use moved::Moved;
 use printer::hex;
 use printer::labelled;
+use printer::moved;
 use printer::refused;
 use printer::text;
 use refusal::Outcome;
@@ -38,11 +40,16 @@ fn done(answer: Outcome) {
     text(b"\n");
 }
 
+fn numbered(label: &[u8], number: u64, by: Moved) {
+    labelled(label, number);
+    moved(by);
+}
+
 fn entered(answer: Entered) {
     match answer {
-        Entered::New(number) => labelled(b" new ", number),
-        Entered::Again(number) => labelled(b" again ", number),
-        Entered::Known(number) => labelled(b" known ", number),
+        Entered::New(number, by) => numbered(b" new ", number, by),
+        Entered::Again(number, by) => numbered(b" again ", number, by),
+        Entered::Known(number, by) => numbered(b" known ", number, by),
         Entered::Refused(r) => refused(r),
     }
     text(b"\n");
