@@ -1,6 +1,6 @@
 /*
- * A register from blank to seal. CAG comes into a repeat of CAG, written down in two ways: it is one
- * molecule, so it has one number and one identifier.
+ * A register from blank to seal. CAG comes into a repeat of CAG, written down in three ways: it is one
+ * molecule, so it has one number and one identifier. How far its interval moved is told of each.
  *
  *     ./install PREFIX
  *     cc -IPREFIX/include -o register examples/register.c PREFIX/lib/libfearnavult.a
@@ -49,6 +49,14 @@ static fv_outcome identify_reference(uint8_t *identifier) {
     return (fv_outcome){w.refusal, w.value};
 }
 
+/* A side that stayed where it was is passed over. */
+static void tell_side(const char *side, uint64_t widened, uint64_t shrunk) {
+    if (widened > 0)
+        printf(", %s widened by %d", side, (int)widened);
+    if (shrunk > 0)
+        printf(", %s shrunk by %d", side, (int)shrunk);
+}
+
 static void enter(uint8_t *image, const uint8_t *digest, uint64_t start, uint64_t end, const char *replacement) {
     static const char *const found[] = {"", "new", "again", "known"};
     uint8_t identifier[IDENTIFIER];
@@ -59,7 +67,10 @@ static void enter(uint8_t *image, const uint8_t *digest, uint64_t start, uint64_
         return;
     fv_allele_identifier(bytes(reference), REFERENCE, start, end, bytes(replacement), strlen(replacement),
                          digest, DIGEST, identifier, IDENTIFIER, 0);
-    printf("%s, number %d, %.*s\n", found[e.answer], (int)e.number, IDENTIFIER, (const char *)identifier);
+    printf("%s, number %d, %.*s", found[e.answer], (int)e.number, IDENTIFIER, (const char *)identifier);
+    tell_side("left", e.left_widened, e.left_shrunk);
+    tell_side("right", e.right_widened, e.right_shrunk);
+    printf("\n");
 }
 
 static void undo(uint8_t *image) {
@@ -79,6 +90,7 @@ int main(void) {
     tell("blank", fv_blank(image, IMAGE, REFERENCE, digest, DIGEST, RECORDS, JOURNAL, POOL));
     enter(image, digest, 4, 4, "CAG");
     enter(image, digest, 1, 2, "CAGC");
+    enter(image, digest, 0, 4, "TCAGCAG");
     enter(image, digest, 1, 4, "CAG");
     tell("withdraw 1", fv_withdraw(image, IMAGE, 1));
     undo(image);

@@ -47,14 +47,26 @@ static int refused(uint64_t refusal, uint64_t value) {
     return refusal != 0;
 }
 
+/* How far the interval moved from the line's own. A side that stayed where it was is passed over. */
+static void tell_side(const char *side, uint64_t widened, uint64_t shrunk) {
+    if (widened > 0)
+        printf(", %s widened by %d", side, (int)widened);
+    if (shrunk > 0)
+        printf(", %s shrunk by %d", side, (int)shrunk);
+}
+
 /* A normal form is its own normal form, so it is entered as it is. */
 static void enter(const fv_form *form, const uint8_t *replacement) {
     static const char *const found[] = {"", "new", "again", "known"};
     fv_entered e = fv_entry(image, IMAGE, digest, DIGEST, bytes(reference), REFERENCE, form->start, form->end,
                             replacement, form->length);
-    if (!refused(e.refusal, e.value))
-        printf("%s, number %d, %d to %d, %.*s\n", found[e.answer], (int)e.number, (int)form->start, (int)form->end,
-               (int)form->length, (const char *)replacement);
+    if (refused(e.refusal, e.value))
+        return;
+    printf("%s, number %d, %d to %d, %.*s", found[e.answer], (int)e.number, (int)form->start, (int)form->end,
+           (int)form->length, (const char *)replacement);
+    tell_side("left", form->left_widened, form->left_shrunk);
+    tell_side("right", form->right_widened, form->right_shrunk);
+    printf("\n");
 }
 
 static void take_alternate(const char *line, uint64_t alternate) {
