@@ -1,19 +1,14 @@
 -- Short texts, and a text laid that is said in another way.
-use Prim.Native.Nat.{ℕ, _+_, _^_, _<_, _≤_}
+use Prim.Native.Nat.{ℕ, _+_, _≤_}
 use native.Mathlib.Omega.{arith}
 use mathlib.Core.Path.{_≡_}
-use mathlib.Core.List.{List, [], _∷_, _++_}
-use lib.ListN.{length, length-append, length-take}
+use mathlib.Core.List.{List}
+use lib.ListN.{length, length-take}
 use Rattle.stretch.specs.Over.{Wrote}
 use Rattle.stretch.specs.Part.{part}
 use Rattle.normal_form.specs.declared.Kind.{Kind}
 use Rattle.normal_form.specs.declared.Kind.the-variants.{Unchanged, Substitution, Indel}
-use Rattle.decimals.specs.Decimal.{decimal}
-use Rattle.decimals.proofs.Digits.{decimal-within}
 use Rattle.answer_line.specs.Answers.{word}
-
-pub number-short : (n b : ℕ) → n < 2 ^ 64 → length (decimal n ++ (b ∷ [])) ≤ 21
-number-short n b h = simp length-append (omega (arith, decimal-within n h))
 
 pub word-short : (k : Kind) → length (word k) ≤ 12
 word-short Unchanged = omega arith

@@ -1,7 +1,7 @@
 -- The answer to a line, by what the line says and by what the normaliser answers.
 use Prim.Native.Nat.{ℕ, _-_}
 use native.Mathlib.Omega.{arith}
-use mathlib.Core.Path.{_≡_, sym}
+use mathlib.Core.Path.{_≡_, _∙_, sym, ap}
 use mathlib.Core.List.{List, [], _∷_, _++_, append-assoc}
 use lib.ListN.{length, take, drop}
 use borrow.Author.Tests.{ne-eqb}
@@ -16,16 +16,25 @@ use Rattle.moved.specs.Moved.{movedIn}
 use Rattle.normal_form_calls.specs.declared.Located.the-variants.{Accepted, Refused}
 use Rattle.normal_form_calls.specs.Calls.{locatedClean}
 use Rattle.normal_form_calls.proofs.Answers.{clean-accepted, clean-refused, clean-form, clean-moved}
-use Rattle.input_line.specs.Meaning.{lineFeed, unread, allele, meaningOf}
-use Rattle.answer_line.specs.Answers.{shownMoves, formReply, alleleReply, answerLine}
+use Rattle.decimals.specs.Decimal.{decimal}
+use Rattle.input_line.specs.Meaning.{space, lineFeed, unread, allele, meaningOf}
+use Rattle.answer_line.specs.Answers.{word, shownMoves, formReply, alleleReply, answerLine}
 use Rattle.answer_line.specs.Inner.{head, refusedLine, stop}
 
 -- a form's line in its parts
+front-line : (start end : ℕ) (k : Kind) (behind rest : List ℕ)
+    → head start end k behind ++ rest ≡ decimal start ++ (space ∷ (decimal end ++ (space ∷ (word k ++ (behind ++ rest)))))
+front-line start end k behind rest =
+    append-assoc (decimal start) _ rest
+    ∙ ap (λ (l : List ℕ). decimal start ++ (space ∷ l)) (append-assoc (decimal end) _ rest
+    ∙ ap (λ (l : List ℕ). decimal end ++ (space ∷ l)) (append-assoc (word k) behind rest))
+
 pub form-line : (k : Kind) (start end : ℕ) (t : List ℕ) (m : Moved) (n : ℕ) → n ≡ length t
     → formReply (record { kind = k; start = start; end = end; replacement = t }) m
     ++ (lineFeed ∷ []) ≡ head start end k (stop n) ++ (t ++ (shownMoves m ++ (lineFeed ∷ [])))
-form-line k start end [] m n e = rw e (simp append-assoc)
-form-line k start end (c ∷ t) m n e = rw (e, ne-eqb (length (c ∷ t)) 0 (λ z. omega arith)) (simp append-assoc)
+form-line k start end [] m n e = rw (e, front-line start end k (stop 0)) (simp append-assoc)
+form-line k start end (c ∷ t) m n e =
+    rw (e, ne-eqb (length (c ∷ t)) 0 (λ z. omega arith), front-line start end k (ascii " ")) (simp append-assoc)
 
 module _ (r : List ℕ) (start end : ℕ) (x : List ℕ) where
   pub accepted-line : (w : Stretches) → Accepted w ≡ locatedClean r start end x

@@ -8,28 +8,29 @@ ghost use Prim.Native.Nat.{_+_, _≤_, _<_};
 ghost use lib.ListN.{length};
 ghost use Rattle.stretch.specs.Over.{Wrote};
 ghost use Rattle.decimals.specs.Decimal.{decimal};
-ghost use Rattle.input_line.specs.Meaning.{lineFeed};
-ghost use Rattle.answer_line.specs.Answers.{word, spaced, shownMoves, frontRoom, movesRoom};
+ghost use Rattle.input_line.specs.Meaning.{space, lineFeed};
+ghost use Rattle.answer_line.specs.Answers.{word, shownMoves, frontRoom, movesRoom};
 ghost use Rattle.answer_line.specs.Inner.{head, refusedLine};
 
-// A number, and one byte after it.
-fn put_number(out: &mut [u8], at: usize, n: u64, behind: u8) -> usize
-    requires { ⌜ at + (length (decimal n) + 1) ≤ length (now out) ⌝ }
-    ensures { λ r. ⌜ Wrote (now (out .entry)) at (decimal n ++ (behind ∷ [])) (now (out .exit)) r ⌝ }
+// A text, and a number after it.
+fn put_after(out: &mut [u8], at: usize, front: &[u8], n: u64) -> usize
+    requires { ⌜ at + (length (now front) + 20) ≤ length (now out) ⌝ }
+    ensures { λ r. ⌜ Wrote (now (out .entry)) at (now (front .entry) ++ decimal n) (now (out .exit)) r ⌝ }
+    ensures { λ r. ⌜ r ≤ at + (length (now (front .entry)) + 20) ⌝ }
 {
-    let end = put_decimal(out, at, n);
-    out[end] = behind;
-    end + 1
+    let digits = put(out, at, front);
+    put_decimal(out, digits, n)
 }
 
 fn put_word(out: &mut [u8], at: usize, kind: Kind) -> usize
-    requires { ⌜ at + length (word kind) ≤ length (now out) ⌝ }
-    ensures { λ r. ⌜ Wrote (now (out .entry)) at (word kind) (now (out .exit)) r ⌝ }
+    requires { ⌜ at + 13 ≤ length (now out) ⌝ }
+    ensures { λ r. ⌜ Wrote (now (out .entry)) at (space ∷ word kind) (now (out .exit)) r ⌝ }
+    ensures { λ r. ⌜ r ≤ at + 13 ⌝ }
 {
     match kind {
-        Kind::Unchanged => put(out, at, b"unchanged"),
-        Kind::Substitution => put(out, at, b"substitution"),
-        Kind::Indel => put(out, at, b"indel"),
+        Kind::Unchanged => put(out, at, b" unchanged"),
+        Kind::Substitution => put(out, at, b" substitution"),
+        Kind::Indel => put(out, at, b" indel"),
     }
 }
 
@@ -39,8 +40,8 @@ pub fn write_head(out: &mut [u8], start: u64, end: u64, kind: Kind, behind: &[u8
     ensures { λ r. ⌜ Wrote (now (out .entry)) 0 (head start end kind (now (behind .entry))) (now (out .exit)) r ⌝ }
     ensures { λ r. ⌜ r ≤ frontRoom ⌝ }
 {
-    let a = put_number(out, 0, start, b' ');
-    let b = put_number(out, a, end, b' ');
+    let a = put_decimal(out, 0, start);
+    let b = put_after(out, a, b" ", end);
     let c = put_word(out, b, kind);
     put(out, c, behind)
 }
@@ -49,18 +50,8 @@ pub fn write_refused(out: &mut [u8], number: u64) -> usize
     requires { ⌜ 29 ≤ length (now out) ⌝ }
     ensures { λ r. ⌜ Wrote (now (out .entry)) 0 (refusedLine number) (now (out .exit)) r ⌝ }
 {
-    let at = put(out, 0, b"refused ");
-    put_number(out, at, number, b'\n')
-}
-
-// A space, and a number after it: 21 bytes at most.
-fn put_spaced(out: &mut [u8], at: usize, n: u64) -> usize
-    requires { ⌜ at + 21 ≤ length (now out) ⌝ }
-    ensures { λ r. ⌜ Wrote (now (out .entry)) at (spaced n) (now (out .exit)) r ⌝ }
-    ensures { λ r. ⌜ r ≤ at + 21 ⌝ }
-{
-    let digits = put(out, at, b" ");
-    put_decimal(out, digits, n)
+    let end = put_after(out, 0, b"refused ", number);
+    put(out, end, b"\n")
 }
 
 // How far the form moved, from `at` on, and the line feed after it.
@@ -70,9 +61,9 @@ pub fn put_moves(out: &mut [u8], at: usize, m: Moved) -> usize
 {
     let left = m.left;
     let right = m.right;
-    let a = put_spaced(out, at, left.widened);
-    let b = put_spaced(out, a, left.shrunk);
-    let c = put_spaced(out, b, right.widened);
-    let d = put_spaced(out, c, right.shrunk);
+    let a = put_after(out, at, b" ", left.widened);
+    let b = put_after(out, a, b" ", left.shrunk);
+    let c = put_after(out, b, b" ", right.widened);
+    let d = put_after(out, c, b" ", right.shrunk);
     put(out, d, b"\n")
 }

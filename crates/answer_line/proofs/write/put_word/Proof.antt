@@ -11,8 +11,7 @@ slice-aggregate-put : tie.Need-slice-aggregate-put
 slice-aggregate-put c = search needs
 
 put-requires : tie.Need-put-requires
-put-requires c κs = omega
-    (arith, rw (c .before .before .enum-told .given .1) at (c .before .before .before .before .before .pre))
+put-requires c κs = search needs
 
 enum-told-2 : tie.Need-enum-told-2
 enum-told-2 c = search needs
@@ -21,8 +20,7 @@ slice-aggregate-put-2 : tie.Need-slice-aggregate-put-2
 slice-aggregate-put-2 c = search needs
 
 put-requires-2 : tie.Need-put-requires-2
-put-requires-2 c κs =
-    omega (arith, rw (c .before .before .enum-told2 .given .1) at (c .before .before .before .before .before .pre))
+put-requires-2 c κs = search needs
 
 enum-told-3 : tie.Need-enum-told-3
 enum-told-3 c = search needs
@@ -31,26 +29,34 @@ slice-aggregate-put-3 : tie.Need-slice-aggregate-put-3
 slice-aggregate-put-3 c = search needs
 
 put-requires-3 : tie.Need-put-requires-3
-put-requires-3 c κs =
-    omega (arith, rw (c .before .before .enum-told3 .given .1) at (c .before .before .before .before .before .pre))
+put-requires-3 c κs = search needs
 
 same-length : tie.Need-same-length
 same-length c = search needs
 
 returns : tie.Need-returns
-returns c = rw (c .before .before .before .before .before .enum-told .given .1) (c .before .before .put .ensures)
+returns c = (
+  rw (c .before .before .before .before .before .enum-told .given .1) (c .before .before .put .ensures),
+  omega (arith, c .before .before .put .ensures .next),
+)
 
 same-length-2 : tie.Need-same-length-2
 same-length-2 c = search needs
 
 returns-2 : tie.Need-returns-2
-returns-2 c = rw (c .before .before .before .before .before .enum-told2 .given .1) (c .before .before .put2 .ensures)
+returns-2 c = (
+  rw (c .before .before .before .before .before .enum-told2 .given .1) (c .before .before .put2 .ensures),
+  omega (arith, c .before .before .put2 .ensures .next),
+)
 
 same-length-3 : tie.Need-same-length-3
 same-length-3 c = search needs
 
 returns-3 : tie.Need-returns-3
-returns-3 c = rw (c .before .before .before .before .before .enum-told3 .given .1) (c .before .before .put3 .ensures)
+returns-3 c = (
+  rw (c .before .before .before .before .before .enum-told3 .given .1) (c .before .before .put3 .ensures),
+  omega (arith, c .before .before .put3 .ensures .next),
+)
 
 pub put-word-spec : {M : Type 1} → statement M
 put-word-spec =

@@ -1,10 +1,15 @@
--- The word, and the number after it.
+-- The words and the number, and a line feed.
 use native.Mathlib.Omega.{arith}
 use borrow.Author.Needs.{needs}
 use Rattle.stretch.proofs.Wrote.{wrote-then}
-use Rattle.decimals.proofs.Digits.{decimal-within}
 use Rattle.answer_line.proofs.write.write_refused.Statement.{statement}
 use Rattle.answer_line.proofs.write.write_refused.Tie as tie
+
+slice-aggregate-put-after : tie.Need-slice-aggregate-put-after
+slice-aggregate-put-after c = search needs
+
+put-after-requires : tie.Need-put-after-requires
+put-after-requires c κs = search needs
 
 slice-aggregate-put : tie.Need-slice-aggregate-put
 slice-aggregate-put c = search needs
@@ -12,25 +17,21 @@ slice-aggregate-put c = search needs
 put-requires : tie.Need-put-requires
 put-requires c κs = search needs
 
-put-number-requires : tie.Need-put-number-requires
-put-number-requires c κs = let p = c .before .before .before in
-    let s = p .before .before .before .before in
-    omega (
-      arith,
-      p .put .kept .0,
-      p .put .ensures .next,
-      decimal-within (s .args .number) (s .fits .number .fits),
-      s .pre,
-    )
-
 same-length : tie.Need-same-length
 same-length c = search needs
 
 returns : tie.Need-returns
-returns c = let p = c .before .before .before .before .before .before in let s = p .before .before .before .before in
-    wrote-then (s .args .out .now) 0 _ _ _ _ _ _ (omega arith) (p .put .ensures)
-    (c .before .before .put-number .ensures)
+returns c =
+    wrote-then _ 0 _ _ _ _ _ _ (omega arith) (c .before .before .before .before .before .before .before .put-after .ensures .0)
+    (c .before .before .put .ensures)
 
 pub write-refused-spec : {M : Type 1} → statement M
 write-refused-spec =
-    tie.close (tie.spec slice-aggregate-put put-requires put-number-requires same-length returns)
+    tie.close
+    (tie.spec
+    slice-aggregate-put-after
+    put-after-requires
+    slice-aggregate-put
+    put-requires
+    same-length
+    returns)

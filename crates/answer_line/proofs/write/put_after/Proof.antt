@@ -1,13 +1,10 @@
--- The space, and the digits after it.
+-- The text, and the digits after it.
 use native.Mathlib.Omega.{arith}
 use borrow.Author.Needs.{needs}
 use Rattle.stretch.proofs.Wrote.{wrote-then}
 use Rattle.decimals.proofs.Digits.{decimal-within}
-use Rattle.answer_line.proofs.write.put_spaced.Statement.{statement}
-use Rattle.answer_line.proofs.write.put_spaced.Tie as tie
-
-slice-aggregate-put : tie.Need-slice-aggregate-put
-slice-aggregate-put c = search needs
+use Rattle.answer_line.proofs.write.put_after.Statement.{statement}
+use Rattle.answer_line.proofs.write.put_after.Tie as tie
 
 put-requires : tie.Need-put-requires
 put-requires c κs = search needs
@@ -39,6 +36,6 @@ returns c = let d = c .before .before in
       ),
     )
 
-pub put-spaced-spec : {M : Type 1} → statement M
-put-spaced-spec =
-    tie.close (tie.spec slice-aggregate-put put-requires put-decimal-requires same-length returns)
+pub put-after-spec : {M : Type 1} → statement M
+put-after-spec =
+    tie.close (tie.spec put-requires put-decimal-requires same-length returns)
