@@ -4,10 +4,9 @@ use Prim.Native.Nat.{ℕ}
 use mathlib.Core.List.{List, [], _∷_, _++_}
 use lib.ListN.{length}
 use Rattle.stretch.specs.Over.{over}
-use Rattle.refusal.specs.Verdict.{Ground, verdict}
-use Rattle.refusal.specs.Grounds.{outputTooShort}
+use Rattle.refusal.specs.Verdict.{Ground}
 use Rattle.refusal.specs.Keeps.{Keeps}
-use Rattle.refusal.specs.Writes.{WritesUnless}
+use Rattle.refusal.specs.Writes.{writeVerdict, WritesUnless}
 use Rattle.refusal.specs.declared.Written.{Written}
 use Rattle.alphabets.specs.Alphabets.{foreignNormal, digestTextGrounds}
 use Rattle.normal_form.specs.Form.{normal}
@@ -31,6 +30,5 @@ WritesAllele r start end x digest =
 unfoldable pub IdentifiesAllele : List ℕ → ℕ → ℕ → List ℕ → List ℕ → List ℕ → ℕ → Identified → List ℕ → Type 0
 IdentifiesAllele r start end x digest out place =
     let text = identifierOf (normal r start end x) digest in
-    Keeps Unidentified
-    (verdict (alleleGrounds r start end x digest ++ (outputTooShort (length out) place (length text) ∷ [])))
+    Keeps Unidentified (writeVerdict (alleleGrounds r start end x digest) text out place)
     (Bytes (length text) (movedBy r start end x)) out (over out place text)

@@ -14,7 +14,10 @@ use Rattle.refusal.specs.Keeps.{Keeps}
 abbrev pub Writes : Verdict → List ℕ → List ℕ → ℕ → Written → List ℕ → Type 0
 Writes v text out place = Keeps Refused v (Bytes (length text)) out (over out place text)
 
+-- the verdict on a text that is to be written: 6 after the other grounds
+abbrev pub writeVerdict : List Ground → List ℕ → List ℕ → ℕ → Verdict
+writeVerdict grounds text out place = verdict (grounds ++ (outputTooShort (length out) place (length text) ∷ []))
+
 -- the text is written from the place on where none of the grounds holds, nor 6 after them
 unfoldable pub WritesUnless : List Ground → List ℕ → List ℕ → ℕ → Written → List ℕ → Type 0
-WritesUnless grounds text out place =
-    Writes (verdict (grounds ++ (outputTooShort (length out) place (length text) ∷ []))) text out place
+WritesUnless grounds text out place = Writes (writeVerdict grounds text out place) text out place
