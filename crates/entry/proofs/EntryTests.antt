@@ -80,8 +80,8 @@ module _ (r : List ℕ) (start end : ℕ) (x : List ℕ) where
     form : formIn r x w ≡ normal r start end x
     form = rw (told .1) (stretches-join r start end x (clean-allele r start end x clean))
 
-    by : movedIn w ≡ movedBy r start end x
-    by = rw (told .1) (stretches-moved r start end x (clean-allele r start end x clean))
+    moves : movedIn w ≡ movedBy r start end x
+    moves = rw (told .1) (stretches-moved r start end x (clean-allele r start end x clean))
 
     pub enters-allele : (b : List ℕ) (answer : Entered) (left : List ℕ)
         → EntersForm b (formIn r x w) (movedIn w) answer left → EntersAllele b r start end x answer left
@@ -89,7 +89,7 @@ module _ (r : List ℕ) (start end : ℕ) (x : List ℕ) where
     enters-allele b answer left p =
         let room = roomGrounds b (normal r start end x) (found b (normal r start end x)) in
         keeps-as _ _ _ _ _ (verdict room) _ _ (verdict-then (changeGrounds r start end x) room (told .0))
-        (subst (λ (g : Normal). EntersAs b g (movedBy r start end x) (found b g) answer left) form (rw by at p))
+        (subst (λ (g : Normal). EntersAs b g (movedBy r start end x) (found b g) answer left) form (rw moves at p))
 
   pub enters-no-allele : (b : List ℕ) (why : Refusal) → Unfound why ≡ changeAnswer r start end x
       → EntersAllele b r start end x (Unentered why) b

@@ -17,7 +17,7 @@ use Rattle.normal_form.specs.Worked.{Case, cases}
 use Rattle.normal_form.proofs.Worked.{formed, worked-normal}
 use Rattle.moved.specs.Moved.{movedBy}
 use Rattle.normal_form_calls.specs.Calls.{formGrounds, normalGrounds}
-use Rattle.normal_form_calls.specs.Worked.{Promised, Works, AllWork, answerTo, moveIn, moves}
+use Rattle.normal_form_calls.specs.Worked.{Promised, Works, AllWork, answerTo, howFar, distances}
 use Rattle.normal_form_calls.proofs.Promises.{normalises-once}
 
 abbrev judged : Case → Verdict
@@ -52,5 +52,5 @@ pub worked-calls : AllWork cases
 worked-calls = all-work cases worked-normal accepted-cases
 
 -- and how far each form moved
-pub worked-moves : map moveIn cases ≡ moves
+pub worked-moves : map howFar cases ≡ distances
 worked-moves = refl

@@ -12,11 +12,11 @@ use Rattle.normal_form_calls.specs.declared.Normalised.the-variants.{Acc
 use Rattle.normal_form_calls.specs.Calls.{numbersOf, Normalises}
 
 -- the table's form, and how far it moved
-abbrev pub moveIn : Case → Moved
-moveIn c = moved (interval (c .start) (c .end)) (intervalOf (c .answer))
+abbrev pub howFar : Case → Moved
+howFar c = moved (interval (c .start) (c .end)) (intervalOf (c .answer))
 
 abbrev pub answerTo : Case → Normalised
-answerTo c = Formed (numbersOf (c .answer)) (moveIn c)
+answerTo c = Formed (numbersOf (c .answer)) (howFar c)
 
 -- what `normal_form` promises of a case
 abbrev pub Promised : Case → List ℕ → ℕ → Normalised → List ℕ → Type 0
@@ -35,8 +35,8 @@ AllWork (c ∷ cs) =
     ((out : List ℕ) (place : ℕ) → place + length (c .answer .replacement) ≤ length out → Works c out place) × AllWork cs
 
 -- how far each form of the table moved
-abbrev pub moves : List Moved
-moves =
+abbrev pub distances : List Moved
+distances =
     by 3 0 6 0
     ∷ by 0 0 8 0
     ∷ by 0 0 6 0
