@@ -1,5 +1,5 @@
 """The normal form by the steps of VRS 1.1.2, and by the two lengths of the model: the same for each allele, and it
-makes the allele's altered sequence.
+makes the allele's altered sequence. The given interval and how far it moved tell the normal one.
 
 usage: steps.py      (compares both and says how many alleles it has tried)
 """
@@ -8,7 +8,7 @@ import sys
 from itertools import chain
 
 import alleles
-from model import INDEL, SUBSTITUTION, UNCHANGED, Form, altered, form
+from model import INDEL, SUBSTITUTION, UNCHANGED, Form, altered, form, moved
 
 SEED = 42
 GENERATED = 4000
@@ -51,6 +51,16 @@ def trim_and_roll(reference, given_start, given_end, replacement):
     return Form(INDEL, start - left, end + right, reference[start - left:start] + new + reference[end:end + right])
 
 
+def told(start, end, by):
+    """The interval that lies so far from the given one."""
+    return start - by.left_widened + by.left_shrunk, end + by.right_widened - by.right_shrunk
+
+
+def one_way(by):
+    """On a side at most one number is above zero."""
+    return min(by.left_widened, by.left_shrunk) == min(by.right_widened, by.right_shrunk) == 0
+
+
 def main():
     rng = random.Random(SEED)
     generated = (alleles.any_allele(rng) for _ in range(GENERATED))
@@ -63,8 +73,13 @@ def main():
         if altered(allele[0], lengths.start, lengths.end, lengths.replacement) != altered(*allele):
             print(f"DISAGREEMENT at {allele}\n  another sequence is made by {lengths}")
             sys.exit("steps: FAILED")
+        by = moved(allele[1], allele[2], lengths)
+        if told(allele[1], allele[2], by) != (steps.start, steps.end) or not one_way(by):
+            print(f"DISAGREEMENT at {allele}\n  moved {by}, to {steps}")
+            sys.exit("steps: FAILED")
         tried += 1
-    print(f"steps: ok, {tried} alleles have the same normal form by steps and by lengths, and it makes their sequence")
+    print(f"steps: ok, {tried} alleles have the same normal form by steps and by lengths, and it makes their sequence; "
+          "how far they moved tells where it lies")
 
 
 if __name__ == "__main__":
