@@ -102,6 +102,13 @@ module _ (b : List ℕ) where
         entries = λ j l. entry-facts j (below-at (entryGood b) (journalCount b) (rest .1) j l);
       }
 
+  header-long : Header b → headerSize ≤ length b
+  header-long h = omega (arith, h .after-header, h .pool, h .whole)
+
+  -- the header of a well-formed image can be read
+  pub header-room : wellFormed b ≡ true → headerSize ≤ length b
+  header-room w = header-long (wellFormed-formed w .header)
+
   laid-out : Formed b → laidOut b ≡ true
   unfolding laidOut
   laid-out f =
@@ -132,9 +139,14 @@ module _ (b : List ℕ) where
   header-formed : Formed b → headerFormed b ≡ true
   unfolding headerFormed
   header-formed f =
-      let h = f .header in
-      let long : headerSize ≤ length b = omega (arith, h .after-header, h .pool, h .whole) in
-      rw (le-leb _ _ long, laid-out f, counts-within f, within-limits f, f .digest, le-leb _ _ (h .whole))
+      rw (
+        le-leb _ _ (header-long (f .header)),
+        laid-out f,
+        counts-within f,
+        within-limits f,
+        f .digest,
+        le-leb _ _ (f .header .whole),
+      )
 
   pub well-formed : Formed b → wellFormed b ≡ true
   unfolding wellFormed

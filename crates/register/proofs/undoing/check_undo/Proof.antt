@@ -4,7 +4,7 @@ use mathlib.Core.Path.{_∙_, sym}
 use borrow.Author.Needs.{needs}
 use borrow.Author.Tests.{not-true, not-false, eq-eqb, ne-eqb}
 use Rattle.register.specs.Calls.{undoGrounds}
-use Rattle.register.proofs.Accepted.{header-room}
+use Rattle.image.proofs.WellFormed.{header-room}
 use Rattle.register.proofs.undoing.check_undo.Statement.{statement}
 use Rattle.register.proofs.undoing.check_undo.Tie as tie
 

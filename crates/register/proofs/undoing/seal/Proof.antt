@@ -6,7 +6,7 @@ use borrow.Author.Needs.{needs}
 use Rattle.changes.specs.Changes.{sealed}
 use Rattle.register.specs.Calls.{Seals}
 use Rattle.refusal.proofs.Keeps.{keeps-refused, keeps-accepted}
-use Rattle.register.proofs.Accepted.{header-room}
+use Rattle.image.proofs.WellFormed.{header-room}
 use Rattle.register.proofs.undoing.seal.Statement.{statement}
 use Rattle.register.proofs.undoing.seal.Tie as tie
 
