@@ -21,7 +21,7 @@ change-requires : tie.Need-change-requires
 change-requires c κs =
     let e = sym (c .before .enum-told .given .1) ∙ c .before .before .before .check-withdrawal .ensures in
     let w = accepted-withdrawable _ _ (outcome-accepted (verdict (withdrawalGrounds _ _)) e) in
-    (wellFormed-formed _ (w .formed) .header, ((w .from, w .to), w .room))
+    (wellFormed-formed _ (w .issued .formed) .header, ((w .issued .from, w .issued .to), w .room))
 
 enum-known-why : tie.Need-enum-known-why
 enum-known-why c = search needs
