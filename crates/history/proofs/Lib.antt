@@ -15,7 +15,8 @@ pub mod Shows
 -- what each call comes to, and how it moves what its image shows
 pub mod Passed
 pub mod Steps
--- demand 3 of an image, along every run, and document 01's example
+-- demand 3 of an image, along every run, what is read of it, and document 01's example
 pub mod ImageDemand
 pub mod Reached
+pub mod Readings
 pub mod Played

@@ -22,7 +22,8 @@ use Rattle.changes.specs.Changes.{blanked, journalled, marked, withdrawn, reent
 use Rattle.changes.specs.Changes.{numbered, latest, undone, sealed}
 use Rattle.entry.specs.Calls.{imageGrounds, changeGrounds, entryGrounds, Enters}
 use Rattle.blank.specs.Calls.{blankGrounds}
-use Rattle.register.specs.Calls.{withdrawalGrounds, Withdraws, undoGrounds, Undoes, Seals}
+use Rattle.record_reader.specs.Calls.{numberGrounds}
+use Rattle.register.specs.Calls.{activeGrounds, withdrawalGrounds, Withdraws, undoGrounds, Undoes, Seals}
 use Rattle.history.specs.Runs.{Run, no-calls, _then_, enters, withdraws, undoes, seals}
 use Rattle.history.specs.Example.{Played, reference, digest, events}
 use Rattle.history.specs.Example.{blank, one, oneUndone, two, oneAgain, oneWithdrawn, closed}
@@ -37,7 +38,7 @@ unfolding below lcp lcs over same
     holds lowest lowestHolding found
     blanked journalled marked withdrawn reentered recorded pooled counted numbered latest undone sealed
     blankGrounds imageGrounds changeGrounds entryGrounds Enters
-    withdrawalGrounds Withdraws undoGrounds Undoes Seals
+    numberGrounds activeGrounds withdrawalGrounds Withdraws undoGrounds Undoes Seals
     blank one oneUndone two oneAgain oneWithdrawn closed
 worked-register =
     record {

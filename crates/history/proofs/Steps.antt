@@ -83,7 +83,7 @@ module _ (r b : List ℕ) (state : State r b) where
 
   withdrawn-step : (i : ℕ) → Withdrawable b i → Step r b (withdrawal i) (withdrawn b i)
   withdrawn-step i w =
-      let l : Live b i = record { from = w .from; to = w .to } in
+      let l : Live b i = record { from = w .issued .from; to = w .issued .to } in
       let s = withdrawn-seen b (image .header) inside i (l .from) (l .to) (w .room) in
       record {
         state = journalled-state (withdrawn b i) i inactive s (omega arith) l (w .room);
