@@ -20,6 +20,8 @@ use Rattle.vcf_line.specs.declared.Counted.{Counted}
 use Rattle.vcf_line.specs.declared.Counted.the-variants.{Places, Refused as Uncounted}
 use Rattle.form_entry.specs.declared.Entered.{Entered}
 use Rattle.form_entry.specs.declared.Entered.the-variants.{New, Again, Known, Refused as Unentered}
+use Rattle.record_reader.specs.declared.RecordRead.{RecordRead}
+use Rattle.record_reader.specs.declared.RecordRead.the-variants.{Accepted as Read, Refused as Unread}
 use Rattle.register.specs.declared.Undone.{Undone}
 use Rattle.register.specs.declared.Undone.the-variants.{Number, Refused as NotUndone}
 use Rattle.c_answers.specs.declared.FvAllele.{FvAllele}
@@ -29,6 +31,7 @@ use Rattle.c_answers.specs.declared.FvForm.{FvForm}
 use Rattle.c_answers.specs.declared.FvIdentified.{FvIdentified}
 use Rattle.c_answers.specs.declared.FvLocation.{FvLocation}
 use Rattle.c_answers.specs.declared.FvOutcome.{FvOutcome}
+use Rattle.c_answers.specs.declared.FvRecord.{FvRecord}
 use Rattle.c_answers.specs.declared.FvUndone.{FvUndone}
 use Rattle.c_answers.specs.declared.FvWritten.{FvWritten}
 
@@ -83,6 +86,20 @@ flatEntered (New i m) = record { refusal = 0; value = 0; answer = 1; number = i;
 flatEntered (Again i m) = record { refusal = 0; value = 0; answer = 2; number = i; moved = m }
 flatEntered (Known i m) = record { refusal = 0; value = 0; answer = 3; number = i; moved = m }
 flatEntered (Unentered r) = record { refusal = r .number; value = r .value; answer = 0; number = 0; moved = still }
+
+abbrev pub flatRecord : RecordRead → FvRecord
+flatRecord (Read p) =
+    record {
+      refusal = 0;
+      value = 0;
+      start = p .start;
+      end = p .end;
+      status = p .status;
+      offset = p .offset;
+      length = p .length;
+    }
+flatRecord (Unread r) =
+    record { refusal = r .number; value = r .value; start = 0; end = 0; status = 0; offset = 0; length = 0 }
 
 abbrev pub flatUndone : Undone → FvUndone
 flatUndone (Number i) = record { refusal = 0; value = 0; number = i }

@@ -11,6 +11,7 @@ pub use numbered::flat_undone;
 pub use read::flat_allele;
 pub use read::flat_counted;
 pub use read::flat_location;
+pub use read::flat_record;
 pub use written::flat_form;
 pub use written::flat_identified;
 pub use written::flat_written;
@@ -95,6 +96,19 @@ pub struct FvEntered {
     pub answer: u64,
     pub number: u64,
     pub moved: moved::Moved,
+}
+
+// What the reading of a record answers: the refusal as above, the interval, the status (1 active, 0 inactive), and
+// where the replacement lies in the image. Each is 0 where it doesn't apply.
+#[repr(C)]
+pub struct FvRecord {
+    pub refusal: u64,
+    pub value: u64,
+    pub start: u64,
+    pub end: u64,
+    pub status: u64,
+    pub offset: u64,
+    pub length: u64,
 }
 
 // What an undo answers: the refusal as above, and the number. Each is 0 where it doesn't apply.

@@ -1,12 +1,14 @@
-// The answers of the calls that read a text, flattened.
+// The answers of the calls that read a text or an image, flattened.
 use super::FvAllele;
 use super::FvCounted;
 use super::FvLocation;
+use super::FvRecord;
+use record_reader::RecordRead;
 use text_reader::AlleleRead;
 use text_reader::LocationRead;
 use vcf_line::Counted;
 ghost use mathlib.Core.Path.{_≡_};
-ghost use Rattle.c_answers.specs.Flat.{flatLocation, flatAllele, flatCounted};
+ghost use Rattle.c_answers.specs.Flat.{flatLocation, flatAllele, flatCounted, flatRecord};
 
 pub fn flat_location(a: LocationRead) -> FvLocation
     ensures { λ r. ⌜ r ≡ flatLocation a ⌝ }
@@ -63,6 +65,31 @@ pub fn flat_counted(a: Counted) -> FvCounted
             refusal: why.number,
             value: why.value,
             count: 0,
+        },
+    }
+}
+
+pub fn flat_record(a: RecordRead) -> FvRecord
+    ensures { λ r. ⌜ r ≡ flatRecord a ⌝ }
+{
+    match a {
+        RecordRead::Accepted(read) => FvRecord {
+            refusal: 0,
+            value: 0,
+            start: read.start,
+            end: read.end,
+            status: read.status,
+            offset: read.offset,
+            length: read.length,
+        },
+        RecordRead::Refused(why) => FvRecord {
+            refusal: why.number,
+            value: why.value,
+            start: 0,
+            end: 0,
+            status: 0,
+            offset: 0,
+            length: 0,
         },
     }
 }

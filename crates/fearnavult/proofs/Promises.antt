@@ -22,9 +22,11 @@ use Rattle.allele_identifier.specs.Calls.{WritesAllele, IdentifiesAllele}
 use Rattle.allele_identifier.proofs.Promises.{identifies-allele-once}
 use Rattle.entry.specs.Calls.{Enters}
 use Rattle.blank.specs.Calls.{Blanks}
+use Rattle.record_reader.specs.Calls.{checked, recordRead}
 use Rattle.register.specs.Calls.{Withdraws, Undoes, Seals}
 use Rattle.entry.proofs.Promises.{enters-once}
 use Rattle.blank.proofs.Promises.{blanks-once}
+use Rattle.record_reader.proofs.Promises.{checks-once, reads-record-once}
 use Rattle.register.proofs.Promises.{withdraws-once, undoes-once, seals-once}
 use Rattle.c_answers.specs.declared.FvAllele.{FvAllele}
 use Rattle.c_answers.specs.declared.FvCounted.{FvCounted}
@@ -33,10 +35,11 @@ use Rattle.c_answers.specs.declared.FvForm.{FvForm}
 use Rattle.c_answers.specs.declared.FvIdentified.{FvIdentified}
 use Rattle.c_answers.specs.declared.FvLocation.{FvLocation}
 use Rattle.c_answers.specs.declared.FvOutcome.{FvOutcome}
+use Rattle.c_answers.specs.declared.FvRecord.{FvRecord}
 use Rattle.c_answers.specs.declared.FvUndone.{FvUndone}
 use Rattle.c_answers.specs.declared.FvWritten.{FvWritten}
 use Rattle.c_answers.specs.Flat.{flatWritten, flatForm, flatLocation, flatAllele, flatOutcome, flatEntered, flatUndone}
-use Rattle.c_answers.specs.Flat.{flatIdentified, flatCounted, Flattened}
+use Rattle.c_answers.specs.Flat.{flatIdentified, flatCounted, flatRecord, Flattened}
 
 -- one answer below is one answer above
 flat-once : {A B : Type 0} (flatten : A → B) (P Q : A → Type 0) (a₁ a₂ : B) (p : Flattened flatten P a₁)
@@ -161,3 +164,13 @@ module _ (b l₁ l₂ : List ℕ) where
   pub flat-undoes-once : (a₁ a₂ : FvUndone) → Flattened flatUndone (λ a. Undoes b a l₁) a₁
       → Flattened flatUndone (λ a. Undoes b a l₂) a₂ → (a₁ ≡ a₂) × (l₁ ≡ l₂)
   flat-undoes-once a₁ a₂ = flat-left-once flatUndone (λ l a. Undoes b a l) a₁ a₂ l₁ l₂ (λ x y. undoes-once b l₁ l₂ x y)
+
+module _ (b : List ℕ) where
+  pub flat-checks-once : (a₁ a₂ : FvOutcome) → Flattened flatOutcome (λ a. a ≡ checked b) a₁
+      → Flattened flatOutcome (λ a. a ≡ checked b) a₂ → a₁ ≡ a₂
+  flat-checks-once a₁ a₂ p q = flat-once _ _ _ _ _ p q (checks-once b _ _ (p .promised) (q .promised))
+
+  pub flat-reads-record-once : (i : ℕ) (a₁ a₂ : FvRecord) → Flattened flatRecord (λ a. a ≡ recordRead b i) a₁
+      → Flattened flatRecord (λ a. a ≡ recordRead b i) a₂ → a₁ ≡ a₂
+  flat-reads-record-once i a₁ a₂ p q =
+      flat-once _ _ _ _ _ p q (reads-record-once b i _ _ (p .promised) (q .promised))

@@ -9,6 +9,7 @@ use c_answers::FvForm;
 use c_answers::FvIdentified;
 use c_answers::FvLocation;
 use c_answers::FvOutcome;
+use c_answers::FvRecord;
 use c_answers::FvUndone;
 use c_answers::FvWritten;
 use c_answers::flat_allele;
@@ -18,6 +19,7 @@ use c_answers::flat_form;
 use c_answers::flat_identified;
 use c_answers::flat_location;
 use c_answers::flat_outcome;
+use c_answers::flat_record;
 use c_answers::flat_undone;
 use c_answers::flat_written;
 use sha512::Running;
@@ -33,9 +35,10 @@ ghost use Rattle.location_identifier.specs.Calls.{WritesLocation, IdentifiesLoc
 ghost use Rattle.allele_identifier.specs.Calls.{WritesAllele, IdentifiesAllele};
 ghost use Rattle.entry.specs.Calls.{Enters};
 ghost use Rattle.blank.specs.Calls.{Blanks};
+ghost use Rattle.record_reader.specs.Calls.{checked, recordRead};
 ghost use Rattle.register.specs.Calls.{Withdraws, Undoes, Seals};
 ghost use Rattle.c_answers.specs.Flat.{flatWritten, flatForm, flatLocation, flatAllele, flatOutcome, flatEntered};
-ghost use Rattle.c_answers.specs.Flat.{flatIdentified, flatCounted, flatUndone, Flattened};
+ghost use Rattle.c_answers.specs.Flat.{flatIdentified, flatCounted, flatRecord, flatUndone, Flattened};
 
 // As `sequence_identifier::sequence_identifier`.
 #[no_mangle]
@@ -278,4 +281,20 @@ pub extern "C" fn fv_seal(image: &mut [u8]) -> FvOutcome
     ensures { λ r. ⌜ Flattened flatOutcome (λ a. Seals (now (image .entry)) a (now (image .exit))) r ⌝ }
 {
     flat_outcome(register::seal(image))
+}
+
+// As `record_reader::check`.
+#[no_mangle]
+pub extern "C" fn fv_check(image: &[u8]) -> FvOutcome
+    ensures { λ r. ⌜ Flattened flatOutcome (λ a. a ≡ checked (now (image .entry))) r ⌝ }
+{
+    flat_outcome(record_reader::check(image))
+}
+
+// As `record_reader::read_record`.
+#[no_mangle]
+pub extern "C" fn fv_read_record(image: &[u8], number: u64) -> FvRecord
+    ensures { λ r. ⌜ Flattened flatRecord (λ a. a ≡ recordRead (now (image .entry)) number) r ⌝ }
+{
+    flat_record(record_reader::read_record(image, number))
 }
