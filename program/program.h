@@ -98,8 +98,8 @@ typedef struct {
     const char *name; /* as given */
     char *path;       /* the file itself, where the name is a link's */
     buffer image;
-    unsigned mode;
-    bool exists;
+    unsigned mode; /* of the old file, where the new one replaces one */
+    bool replaces;
 } register_file;
 void open_register(register_file *r, const char *name);
 void open_register_to_change(register_file *r, const char *name);

@@ -42,67 +42,60 @@ static void lock_register(const register_file *r) {
     free(path);
 }
 
-/* Reads the image, if the file is there. */
+static bool exists(const register_file *r, struct stat *status) {
+    if (stat(r->path, status) == 0)
+        return true;
+    if (errno != ENOENT)
+        fail(r->name, strerror(errno));
+    return false;
+}
+
 static void load(register_file *r) {
     struct stat status;
+    size_t length = PIECE;
     int file = open(r->path, O_RDONLY | O_CLOEXEC);
-    r->exists = file >= 0;
-    if (!r->exists)
-        return;
-    if (fstat(file, &status) != 0)
+    if (file < 0 || fstat(file, &status) != 0)
         fail(r->name, strerror(errno));
     r->mode = status.st_mode & MODE_BITS;
-    size_t length = 1;
-    while (length > 0) {
+    while (length == PIECE) {
         reserve(&r->image, PIECE);
         length = read_piece(file, r->name, r->image.at + r->image.length, PIECE);
         r->image.length += length;
     }
     if (close(file) != 0)
         fail(r->name, strerror(errno));
-}
-
-static void expect_well_formed(const register_file *r) {
     fv_outcome o = fv_check(r->image.at, r->image.length);
     if (o.refusal != FV_ACCEPTED)
         refuse(o.refusal, o.value);
 }
 
-static void load_well_formed(register_file *r) {
-    load(r);
-    if (!r->exists)
-        fail(r->name, strerror(errno));
-    expect_well_formed(r);
-}
-
 void open_register(register_file *r, const char *name) {
     *r = (register_file){.name = name, .path = path_of(name)};
-    load_well_formed(r);
+    load(r);
 }
 
 /* A name that is mistyped is told before there is a lock, which would stay. */
 void open_register_to_change(register_file *r, const char *name) {
     struct stat status;
-    *r = (register_file){.name = name, .path = path_of(name)};
-    if (stat(r->path, &status) != 0)
-        fail(name, strerror(errno));
+    *r = (register_file){.name = name, .path = path_of(name), .replaces = true};
+    if (!exists(r, &status))
+        fail(name, strerror(ENOENT));
     if (S_ISDIR(status.st_mode))
         fail(name, strerror(EISDIR));
     lock_register(r);
-    load_well_formed(r);
+    load(r);
 }
 
 /* With force the old file has to be a register, so that no other file is lost by a slip. */
 void open_register_to_blank(register_file *r, const char *name, bool force) {
+    struct stat status;
     *r = (register_file){.name = name, .path = path_of(name)};
     lock_register(r);
-    load(r);
-    if (!r->exists && errno != ENOENT)
-        fail(name, strerror(errno));
-    if (r->exists && !force)
+    r->replaces = exists(r, &status);
+    if (r->replaces && !force)
         fail(name, "exists, --force makes it blank again");
-    if (r->exists)
-        expect_well_formed(r);
+    if (r->replaces)
+        load(r);
 }
 
 static bool write_all(int file, const buffer *b) {
@@ -123,7 +116,7 @@ static char *folder_of(const char *path) {
 
 static bool write_new(const register_file *r, const char *path) {
     int file = open(path, O_WRONLY | O_CREAT | O_TRUNC | O_NOFOLLOW | O_CLOEXEC, 0666);
-    return file >= 0 && (!r->exists || fchmod(file, (mode_t)r->mode) == 0) && write_all(file, &r->image) &&
+    return file >= 0 && (!r->replaces || fchmod(file, (mode_t)r->mode) == 0) && write_all(file, &r->image) &&
            fsync(file) == 0 && close(file) == 0;
 }
 

@@ -162,8 +162,9 @@ static void draw_progress(progress *p) {
 
 static FILE *open_calls(const options *o, const char *name, progress *p) {
     struct stat status;
-    int opened = strcmp(o->vcf, "-") == 0 ? STDIN_FILENO : open(o->vcf, O_RDONLY | O_CLOEXEC);
-    FILE *file = opened < 0 ? NULL : fdopen(opened, "r");
+    bool standard = strcmp(o->vcf, "-") == 0;
+    int opened = standard ? STDIN_FILENO : open(o->vcf, O_RDONLY | O_CLOEXEC);
+    FILE *file = standard ? stdin : opened < 0 ? NULL : fdopen(opened, "r");
     if (file == NULL || fstat(opened, &status) != 0)
         fail(name, strerror(errno));
     p->wanted = isatty(STDERR_FILENO) == 1;
