@@ -11,7 +11,7 @@
  * caller's: no call keeps a pointer, and calls on different memory may run at the same time.
  *
  * Each answer but that of fv_running_begin begins with two numbers:
- *   refusal  0 where the call is accepted, else the number of the reason why it is refused;
+ *   refusal  0 where the call is accepted, else the number of the reason why it is refused, an fv_refusal;
  *   value    what that reason returns with it, and 0 where the call is accepted.
  * A call tests its reasons in the order in which it lists them, and answers the first that holds. A call
  * that is refused writes no byte, and all that it answers after `value` is 0. Any value may be given for
@@ -30,9 +30,83 @@
 #include <stddef.h>
 #include <stdint.h>
 
+#define FV_VERSION_MAJOR 0
+#define FV_VERSION_MINOR 4
+#define FV_VERSION_PATCH 0
+
+/* The three as a text, with a full stop between them. */
+#define FV_VERSION FV_VERSION_JOINED(FV_VERSION_MAJOR, FV_VERSION_MINOR, FV_VERSION_PATCH)
+#define FV_VERSION_JOINED(major, minor, patch) FV_VERSION_QUOTED(major, minor, patch)
+#define FV_VERSION_QUOTED(major, minor, patch) #major "." #minor "." #patch
+
+/* How many bytes the texts have whose lengths are fixed. An identifier's last 32 are its digest. */
+#define FV_DIGEST_LENGTH 32
+#define FV_IDENTIFIER_LENGTH 41          /* a sequence's or an allele's */
+#define FV_LOCATION_IDENTIFIER_LENGTH 42
+
+/* The limits. */
+#define FV_REFERENCE_LIMIT 1000000000 /* residues of a reference */
+#define FV_REPLACEMENT_LIMIT 1000000  /* residues of a replacement that is given */
+#define FV_COUNT_LIMIT 10000          /* records of an image, and journal entries likewise */
+#define FV_POOL_LIMIT 10000000        /* bytes of an image's pool */
+
+/*
+ * How many bytes an image with these capacities has, as a uint64_t: 10,240,076 at most for capacities within
+ * the limits, which fv_blank tests. It is a constant where they are. Past the limits it is the true sum while
+ * that is below 2 to the 64th, as with any three capacities below 2 to the 59th.
+ */
+#define FV_IMAGE_SIZE(records, journal, pool) \
+    (UINT64_C(76) + UINT64_C(20) * (records) + UINT64_C(4) * (journal) + (pool))
+
 #ifdef __cplusplus
 extern "C" {
 #endif
+
+/* Why a call is refused. Each call says what `value` tells beside it. */
+enum fv_refusal {
+    FV_ACCEPTED = 0,           /* it is not */
+    FV_OVER_LIMIT = 1,         /* a reference or a replacement is over its limit */
+    FV_START_ABOVE_END = 2,    /* the start is above the end */
+    FV_END_PAST_REFERENCE = 3, /* the end is past the reference */
+    FV_FOREIGN_INPUT = 4,      /* a byte that was given is no residue */
+    FV_FOREIGN_NORMAL = 5,     /* a byte of the normal replacement is no residue */
+    FV_NO_ROOM = 6,            /* `out` has too few bytes from `place` on */
+    FV_BAD_DIGEST = 7,         /* not 32 base64url characters */
+    FV_BAD_TEXT = 8,           /* not a location text, or not an allele text */
+    FV_BAD_CAPACITY = 9,       /* a capacity is over its limit, or the image has too few bytes for them */
+    FV_NOT_WELL_FORMED = 10,   /* the image is not well formed */
+    FV_OTHER_REFERENCE = 11,   /* the image is of a reference with another digest or length */
+    FV_NO_CHANGE = 12,         /* the allele makes the reference itself */
+    FV_NO_RECORD = 13,         /* all records are taken */
+    FV_NO_POOL_ROOM = 14,      /* the pool has too few bytes left */
+    FV_NO_JOURNAL_ROOM = 15,   /* all journal entries are in use */
+    FV_NO_SUCH_NUMBER = 16,    /* the number is not issued */
+    FV_NOT_ACTIVE = 17,        /* the number is not active */
+    FV_NOTHING_TO_UNDO = 18,   /* the journal has no change */
+    FV_BAD_LINE = 19,          /* not a VCF data line on this reference */
+    FV_REF_DIFFERS = 20,       /* a letter of REF is not the reference's */
+    FV_BAD_ALTERNATE = 21      /* no such place in ALT, or what stands there is not all letters */
+};
+
+/* What an allele does to its reference. */
+enum fv_kind {
+    FV_UNCHANGED = 0,    /* it makes the reference itself */
+    FV_SUBSTITUTION = 1, /* residues give way to others, as many or not */
+    FV_INDEL = 2         /* residues are only put in, or only taken out */
+};
+
+/* How an entry found an allele in the register. */
+enum fv_answer {
+    FV_NEW = 1,   /* under no number: the next is issued */
+    FV_AGAIN = 2, /* under an inactive number, which is active again */
+    FV_KNOWN = 3  /* under an active number */
+};
+
+/* What a number's record says of it. */
+enum fv_status {
+    FV_INACTIVE = 0, /* withdrawn, or its entry taken back */
+    FV_ACTIVE = 1
+};
 
 /* The answer of a call that is accepted or refused, and says nothing else. */
 typedef struct {
@@ -115,7 +189,7 @@ fv_written fv_running_finish(const fv_running *state, uint8_t *out, size_t out_l
 typedef struct {
     uint64_t refusal;
     uint64_t value;
-    uint64_t kind;          /* 0 unchanged, 1 substitution, 2 indel */
+    uint64_t kind;          /* an fv_kind: 0 unchanged, 1 substitution, 2 indel */
     uint64_t start;
     uint64_t end;
     uint64_t length;        /* of the normal replacement: how many bytes the call wrote */
@@ -356,7 +430,7 @@ fv_outcome fv_blank(uint8_t *image, size_t image_len, uint64_t reference_length,
 typedef struct {
     uint64_t refusal;
     uint64_t value;
-    uint64_t answer; /* 1 new, 2 again, 3 known */
+    uint64_t answer; /* an fv_answer: 1 new, 2 again, 3 known */
     uint64_t number; /* the allele's, from 1 */
     uint64_t left_widened;
     uint64_t left_shrunk;

@@ -40,6 +40,13 @@ static int answered(fv_outcome o, uint64_t refusal, uint64_t value) {
     return o.refusal == refusal && o.value == value;
 }
 
+static void names(void) {
+    char version[40];
+    snprintf(version, sizeof version, "%d.%d.%d", FV_VERSION_MAJOR, FV_VERSION_MINOR, FV_VERSION_PATCH);
+    expect("FV_VERSION", strcmp(FV_VERSION, version) == 0);
+    expect("FV_DIGEST_LENGTH", strlen(DIGEST) == FV_DIGEST_LENGTH);
+}
+
 static void sequences(void) {
     fv_running state = fv_running_begin(), kept;
     expect("fv_sequence_identifier", wrote(fv_sequence_identifier(TEXT("ACGT"), out, sizeof out, 0),
@@ -122,7 +129,9 @@ static int undone(uint8_t *image, uint64_t refusal, uint64_t value, uint64_t num
 
 static void registers(void) {
     const fv_entered known = {0, 0, 3, 1, 3, 0, 6, 0};
-    uint8_t image[143], sealed[143];
+    uint8_t image[FV_IMAGE_SIZE(2, 3, 15)], sealed[143];
+    expect("FV_IMAGE_SIZE", sizeof image == 143);
+    expect("FV_IMAGE_SIZE", FV_IMAGE_SIZE(FV_COUNT_LIMIT, FV_COUNT_LIMIT, FV_POOL_LIMIT) == 10240076);
     expect("fv_blank", answered(fv_blank(image, 142, 11, TEXT(DIGEST), 2, 3, 15), 9, 143));
     expect("fv_blank", answered(fv_blank(image, 143, 11, TEXT(DIGEST), 2, 3, 15), 0, 0)
                        && image[24] == 116 && image[36] == 128);
@@ -161,6 +170,7 @@ static void vcf_lines(void) {
 }
 
 int main(void) {
+    names();
     sequences();
     forms();
     texts_written();
