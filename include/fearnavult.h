@@ -148,6 +148,20 @@ typedef struct {
     uint64_t total;     /* how many residues so far */
 } fv_running;
 
+/* Where the compiler can tell: its layout is the archive's. */
+#if defined(__cplusplus) && __cplusplus >= 201103L
+#define FV_ASSERT static_assert
+#elif defined(__STDC_VERSION__) && __STDC_VERSION__ >= 201112L
+#define FV_ASSERT _Static_assert
+#endif
+#ifdef FV_ASSERT
+FV_ASSERT(sizeof(fv_running) == 200, "an fv_running has 200 bytes");
+FV_ASSERT(offsetof(fv_running, words) == 0, "its words begin at 0");
+FV_ASSERT(offsetof(fv_running, block) == 64, "its block begins at 64");
+FV_ASSERT(offsetof(fv_running, total) == 192, "its total begins at 192");
+#undef FV_ASSERT
+#endif
+
 /*
  * Answers the running digest of no part yet. It is never refused.
  *
