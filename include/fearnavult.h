@@ -537,6 +537,44 @@ fv_undone fv_undo(uint8_t *image, size_t image_len);
 fv_outcome fv_seal(uint8_t *image, size_t image_len);
 
 /*
+ * Tests whether an image is well formed. Nothing is written. A program asks it before it keeps an image that
+ * came from a file.
+ *
+ * Accepted: { 0, 0 }. Refused:
+ *   10, value 0   the image is not well formed.
+ *
+ * After fv_entry's example the answer is { 0, 0 }. With an image_len of 142, one byte less than it needs, it is
+ * { 10, 0 }.
+ */
+fv_outcome fv_check(const uint8_t *image, size_t image_len);
+
+/* What the record of a number says. */
+typedef struct {
+    uint64_t refusal;
+    uint64_t value;
+    uint64_t start;
+    uint64_t end;
+    uint64_t status; /* an fv_status: 1 active, 0 inactive */
+    uint64_t offset; /* of the normal replacement in the image, where its residues stand */
+    uint64_t length; /* of the normal replacement */
+} fv_record;
+
+/*
+ * Reads the record of a number, active or not: its normal form, with the normal replacement at image[offset]
+ * to image[offset + length - 1]. Nothing is written. Number 0 is never issued, so that asking for it tells
+ * how many numbers are.
+ *
+ * Accepted: { 0, 0, start, end, status, offset, length }. Refused, in this order:
+ *   10, value 0   the image is not well formed;
+ *   16, value k   number is 0, or above k, how many are issued.
+ *
+ * After fv_entry's example number 1 is answered { 0, 0, 1, 10, 1, 128, 12 }, and image[128] to image[139] hold
+ * CAGCAGCAGCAG
+ * Number 0 is refused { 16, 1, 0, 0, 0, 0, 0 }, and so is number 2.
+ */
+fv_record fv_read_record(const uint8_t *image, size_t image_len, uint64_t number);
+
+/*
  * VCF: the alleles of one data line of a VCF file, on the reference that its CHROM names. The caller
  * finds that reference and lends it.
  *

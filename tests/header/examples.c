@@ -127,6 +127,11 @@ static int undone(uint8_t *image, uint64_t refusal, uint64_t value, uint64_t num
     return u.refusal == refusal && u.value == value && u.number == number;
 }
 
+static int record_is(const uint8_t *image, uint64_t number, fv_record wanted) {
+    fv_record r = fv_read_record(image, 143, number);
+    return memcmp(&r, &wanted, sizeof r) == 0;
+}
+
 static void registers(void) {
     const fv_entered known = {0, 0, 3, 1, 3, 0, 6, 0};
     uint8_t image[FV_IMAGE_SIZE(2, 3, 15)], sealed[143];
@@ -138,6 +143,13 @@ static void registers(void) {
     expect("fv_entry", entered(ENTRY(image, 4, 4, "CAG"), (fv_entered){0, 0, 1, 1, 3, 0, 6, 0}));
     expect("fv_entry", entered(ENTRY(image, 1, 2, "CAGC"), (fv_entered){0, 0, 3, 1, 0, 0, 8, 0}));
     memcpy(sealed, image, sizeof image);
+    expect("fv_check", answered(fv_check(image, 143), 0, 0));
+    expect("fv_check", answered(fv_check(image, 142), 10, 0));
+    expect("fv_read_record", record_is(image, 1, (fv_record){0, 0, 1, 10, 1, 128, 12})
+                             && memcmp(image + 128, "CAGCAGCAGCAG", 12) == 0);
+    expect("fv_read_record", record_is(image, 0, (fv_record){16, 1, 0, 0, 0, 0, 0}));
+    expect("fv_read_record", record_is(image, 2, (fv_record){16, 1, 0, 0, 0, 0, 0}));
+    expect("fv_read_record", memcmp(image, sealed, sizeof image) == 0);
     expect("fv_withdraw", answered(fv_withdraw(image, 143, 1), 0, 0));
     expect("fv_withdraw", answered(fv_withdraw(image, 143, 1), 17, 1));
     expect("fv_withdraw", answered(fv_withdraw(image, 143, 2), 16, 1));
