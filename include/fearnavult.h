@@ -7,8 +7,9 @@
  *
  * A slice is a pointer and then its length in bytes. The pointer must not be null, even where the
  * length is 0, and that many bytes must be readable there (and writable, where it is not const)
- * for as long as the call runs. No two slices of one call may overlap. All memory stays the
- * caller's: no call keeps a pointer, and calls on different memory may run at the same time.
+ * for as long as the call runs. A slice that is written, one that is not const, must not overlap any other
+ * slice of the call; two that are only read may overlap. All memory stays the caller's: no call keeps a
+ * pointer, and calls on different memory may run at the same time.
  *
  * Each answer but that of fv_running_begin begins with two numbers:
  *   refusal  0 where the call is accepted, else the number of the reason why it is refused, an fv_refusal;

@@ -76,6 +76,13 @@ static void forms(void) {
                                      (fv_form){0, 0, 1, 2, 3, 1, 0, 1, 0, 2}, "T"));
 }
 
+/* Slices that are only read may overlap: here the replacement is lent from the reference. */
+static void overlapping(void) {
+    const uint8_t *repeat = (const uint8_t *)REPEAT;
+    expect("a slice that is only read", form_is(fv_normal_form(repeat, 11, 4, 4, repeat + 1, 3, out, 12, 0),
+                                                (fv_form){0, 0, 2, 1, 10, 12, 3, 0, 6, 0}, "CAGCAGCAGCAG"));
+}
+
 static int identified(fv_identified i, const char *text) {
     return wrote((fv_written){i.refusal, i.value, i.length}, text) && i.left_widened == 3 && i.left_shrunk == 0
            && i.right_widened == 6 && i.right_shrunk == 0;
@@ -185,6 +192,7 @@ int main(void) {
     names();
     sequences();
     forms();
+    overlapping();
     texts_written();
     texts_read();
     registers();
