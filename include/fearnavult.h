@@ -1,9 +1,10 @@
 /*
  * Fearnavult: the calls that other software links.
  *
- * `./install PREFIX` puts this header into PREFIX/include and libfearnavult.a into PREFIX/lib. The
- * library is for x86-64, allocates nothing, has no state of its own, and calls only memcpy and memset of
- * your C library. examples/register.c is a whole program that uses it, and examples/vcf.c another.
+ * `./install PREFIX` puts this header into PREFIX/include, and libfearnavult.a, libfearnavult.so and
+ * pkgconfig/fearnavult.pc into PREFIX/lib. The library is for x86-64, allocates nothing, has no state of its
+ * own, and calls only memcpy and memset of your C library. examples/register.c is a whole program that uses
+ * it, examples/register.py the same in Python, and examples/vcf.c one that takes VCF lines.
  *
  * A slice is a pointer and then its length in bytes. The pointer must not be null, even where the
  * length is 0, and that many bytes must be readable there (and writable, where it is not const)

@@ -33,19 +33,35 @@ execute() {
     ${emulator:+"$emulator"} "$loader" --library-path "$lib" "$@"
 }
 
-# build PROGRAM SOURCE [ARCHIVE]: a C program over the library that is installed under $prefix, or over another. On
-# x86-64 the machine's own compiler builds it, as a laboratory would; elsewhere the kit's does, with what tests/libc
-# declares. started is then the words that start it.
-build() {
-    build_archive=${3:-$prefix/lib/libfearnavult.a}
+# start PROGRAM: sets started to the words that start a program that build_over has built.
+start() {
+    started=$1
+    [ "$(uname -m)" = x86_64 ] || started="$emulator $loader --library-path $lib $1"
+}
+
+# build_over ARCHIVE FLAG PROGRAM SOURCE...: a C program over an archive, compiled with one more flag. On x86-64 the
+# machine's own compiler builds it, as a laboratory would; elsewhere the kit's does, with what tests/libc declares.
+# started is then the words that start it.
+build_over() {
+    build_archive=$1 build_flag=$2 build_program=$3
+    shift 3
+    start "$build_program"
     if [ "$(uname -m)" = x86_64 ]; then
-        gcc -std=c11 -O2 -Wall -Wextra -Werror -I"$prefix/include" -o "$1" "$2" "$build_archive"
-        started=$1
-    else
-        compile "$2" "$1.o" -O2 -Itests/libc
-        link "$1" "$1.o" "$build_archive"
-        started="$emulator $loader --library-path $lib $1"
+        gcc -std=c11 -O2 -Wall -Wextra -Werror "$build_flag" -Iinclude -o "$build_program" "$@" "$build_archive"
+        return
     fi
+    for build_source in "$@"; do
+        shift
+        build_object=$build_program.$(basename "$build_source" .c).o
+        compile "$build_source" "$build_object" "$build_flag" -O2 -Itests/libc
+        set -- "$@" "$build_object"
+    done
+    link "$build_program" "$@" "$build_archive"
+}
+
+# build PROGRAM SOURCE [ARCHIVE]: one over the library that is installed under $prefix, or over another archive.
+build() {
+    build_over "${3:-$prefix/lib/libfearnavult.a}" "-I$prefix/include" "$1" "$2"
 }
 
 # prove RESULT TIME WORD...: rt with these words, which makes the file RESULT; TIME is how long that takes from nothing, on
@@ -68,4 +84,23 @@ prove() {
 make_archive() {
     archive=${FV_ARCHIVE:-target/staticlib/libfearnavult.a}
     [ -n "${FV_ARCHIVE:-}" ] || prove "$archive" "about five minutes" staticlib fearnavult
+}
+
+# make_shared FILE: the shared library of make_archive's archive, by the kit's linker on every kind of machine.
+# A program that was linked with it asks for it by the name in shared. The number there goes up when a struct or a call
+# takes another shape, so that a program of the old shape does not meet the new one.
+shared=libfearnavult.so.0
+make_shared() {
+    "$tools/bin/ld.lld" -shared -z defs -soname "$shared" -o "$1" \
+        --whole-archive "$archive" --no-whole-archive "$lib/libc.so.6"
+}
+
+# make_program PROGRAM: the program fearnavult over make_archive's archive, where it is older than what it is built
+# from. started is then the words that start it. Over another archive it is made old, so as not to be taken for this.
+make_program() {
+    start "$1"
+    if ! [ -e "$1" ] || [ -n "$(find program include tests/libc tests/machine.sh "$archive" -newer "$1")" ]; then
+        build_over "$archive" -D_POSIX_C_SOURCE=200809L "$1" program/*.c
+        [ -z "${FV_ARCHIVE:-}" ] || touch -t 197001010000 "$1"
+    fi
 }
