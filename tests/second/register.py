@@ -1,6 +1,7 @@
 """The register, said a second time: an image is read into numbers and lists, changed as these, and laid out again.
 
-A call answers its refusal and value, then what else it answers, and the image afterwards.
+A call answers its refusal and value, then what else it answers, and the image afterwards; the two that only read
+one, check and read_record, answer no image.
 """
 from functools import lru_cache
 from struct import iter_unpack, pack, unpack_from
@@ -13,6 +14,7 @@ HEADER_SIZE, RECORD_SIZE, ENTRY_SIZE = 76, 20, 4
 COUNT_LIMIT = 10_000
 POOL_LIMIT = 10_000_000
 INACTIVE, ACTIVE = range(2)
+STATUS = "inactive", "active"
 
 # How an allele was found is its number in the C library; FOUND has its name.
 NEW, AGAIN, KNOWN = 1, 2, 3
@@ -212,3 +214,20 @@ def seal(image):
     if register is None:
         return 10, 0, image
     return *model.ACCEPTED, laid(register._replace(journalled=()), image)
+
+
+def check(image):
+    """Refusal and value."""
+    return (10, 0) if read(image) is None else model.ACCEPTED
+
+
+def read_record(image, number):
+    """Refusal, value, start, end, status, where in the image the replacement begins, and its length."""
+    register = read(image)
+    if register is None:
+        return 10, 0, 0, 0, 0, 0, 0
+    if not 1 <= number <= len(register.issued):
+        return 16, len(register.issued), 0, 0, 0, 0, 0
+    *before, (start, end, replacement, status) = register.issued[:number]
+    offset = register.pool_at() + sum(len(record.replacement) for record in before)
+    return *model.ACCEPTED, start, end, status, offset, len(replacement)
