@@ -6,16 +6,14 @@
  *     ./install PREFIX
  *     cc -IPREFIX/include -o vcf examples/vcf.c PREFIX/lib/libfearnavult.a
  */
-#include <stdint.h>
+#include <inttypes.h>
 #include <stdio.h>
 #include <string.h>
 
 #include "fearnavult.h"
 
-enum { DIGEST = 32, IDENTIFIER = 41 };
-
 /* Room for 5 records, 10 journal entries and 100 residues. */
-enum { RECORDS = 5, JOURNAL = 10, POOL = 100, IMAGE = 76 + 20 * RECORDS + 4 * JOURNAL + POOL };
+enum { RECORDS = 5, JOURNAL = 10, POOL = 100, IMAGE = FV_IMAGE_SIZE(RECORDS, JOURNAL, POOL) };
 
 /* A form that would need more is refused under 6, which says how much. */
 enum { ROOM = 50 };
@@ -33,8 +31,8 @@ static const char *const lines[] = {
     "chr1\t5\t.\tA\tG\t12\tq20\tDP=7\tGT\t0/1",
 };
 
-static uint8_t image[IMAGE], identifier[IDENTIFIER];
-static const uint8_t *const digest = identifier + IDENTIFIER - DIGEST;
+static uint8_t image[IMAGE], identifier[FV_IDENTIFIER_LENGTH];
+static const uint8_t *const digest = identifier + FV_IDENTIFIER_LENGTH - FV_DIGEST_LENGTH;
 
 static const uint8_t *bytes(const char *text) {
     return (const uint8_t *)text;
@@ -42,28 +40,35 @@ static const uint8_t *bytes(const char *text) {
 
 /* Says whether a call was refused. */
 static int refused(uint64_t refusal, uint64_t value) {
-    if (refusal != 0)
-        printf("refused %d, %d\n", (int)refusal, (int)value);
-    return refusal != 0;
+    if (refusal != FV_ACCEPTED)
+        printf("refused %" PRIu64 ", %" PRIu64 "\n", refusal, value);
+    return refusal != FV_ACCEPTED;
 }
 
 /* How far the interval moved from the line's own. A side that stayed where it was is passed over. */
 static void tell_side(const char *side, uint64_t widened, uint64_t shrunk) {
     if (widened > 0)
-        printf(", %s widened by %d", side, (int)widened);
+        printf(", %s widened by %" PRIu64, side, widened);
     if (shrunk > 0)
-        printf(", %s shrunk by %d", side, (int)shrunk);
+        printf(", %s shrunk by %" PRIu64, side, shrunk);
+}
+
+static const char *answer(uint64_t answer) {
+    switch (answer) {
+    case FV_NEW: return "new";
+    case FV_AGAIN: return "again";
+    default: return "known";
+    }
 }
 
 /* A normal form is its own normal form, so it is entered as it is. */
 static void enter(const fv_form *form, const uint8_t *replacement) {
-    static const char *const found[] = {"", "new", "again", "known"};
-    fv_entered e = fv_entry(image, IMAGE, digest, DIGEST, bytes(reference), REFERENCE, form->start, form->end,
+    fv_entered e = fv_entry(image, IMAGE, digest, FV_DIGEST_LENGTH, bytes(reference), REFERENCE, form->start, form->end,
                             replacement, form->length);
     if (refused(e.refusal, e.value))
         return;
-    printf("%s, number %d, %d to %d, %.*s", found[e.answer], (int)e.number, (int)form->start, (int)form->end,
-           (int)form->length, (const char *)replacement);
+    printf("%s, number %" PRIu64 ", %" PRIu64 " to %" PRIu64 ", %.*s", answer(e.answer), e.number,
+           form->start, form->end, (int)form->length, (const char *)replacement);
     tell_side("left", form->left_widened, form->left_shrunk);
     tell_side("right", form->right_widened, form->right_shrunk);
     printf("\n");
@@ -71,7 +76,7 @@ static void enter(const fv_form *form, const uint8_t *replacement) {
 
 static void take_alternate(const char *line, uint64_t alternate) {
     uint8_t replacement[ROOM];
-    printf("  %d: ", (int)alternate);
+    printf("  %" PRIu64 ": ", alternate);
     fv_form form = fv_vcf_form(bytes(reference), REFERENCE, bytes(line), strlen(line), alternate, replacement, ROOM, 0);
     if (!refused(form.refusal, form.value))
         enter(&form, replacement);
@@ -80,17 +85,17 @@ static void take_alternate(const char *line, uint64_t alternate) {
 static void take_line(const char *line) {
     printf("%s\n", line);
     fv_counted c = fv_vcf_count(bytes(reference), REFERENCE, bytes(line), strlen(line));
-    if (c.refusal != 0)
-        printf("  refused %d, %d\n", (int)c.refusal, (int)c.value);
+    if (c.refusal != FV_ACCEPTED)
+        printf("  refused %" PRIu64 ", %" PRIu64 "\n", c.refusal, c.value);
     for (uint64_t alternate = 1; alternate <= c.count; alternate++)
         take_alternate(line, alternate);
 }
 
 int main(void) {
-    fv_written w = fv_sequence_identifier(bytes(reference), REFERENCE, identifier, IDENTIFIER, 0);
+    fv_written w = fv_sequence_identifier(bytes(reference), REFERENCE, identifier, sizeof identifier, 0);
     if (refused(w.refusal, w.value))
         return 1;
-    fv_outcome o = fv_blank(image, IMAGE, REFERENCE, digest, DIGEST, RECORDS, JOURNAL, POOL);
+    fv_outcome o = fv_blank(image, IMAGE, REFERENCE, digest, FV_DIGEST_LENGTH, RECORDS, JOURNAL, POOL);
     if (refused(o.refusal, o.value))
         return 1;
     for (size_t i = 0; i < sizeof lines / sizeof *lines; i++)
