@@ -7,7 +7,7 @@ import sys
 from glob import glob
 from pathlib import Path
 
-DOCUMENTS = ("README.md", *sorted(glob("docs/*.md")))
+DOCUMENTS = ("README.md", "CHANGELOG.md", *sorted(glob("docs/*.md")))
 QUOTING = ("docs/DEMANDS.md", "docs/CALLS.md")
 FILE = re.compile(r"[\w.*/-]+/[\w.*-]+\.(?:antt|rt|md|py|c|h|sh|txt|edit)\b")
 # Words that stand for a name.
