@@ -1,6 +1,6 @@
 /*
- * The examples of include/fearnavult.h, each as it is worded there. Ends with status 1 at the first that
- * is not so.
+ * The examples of include/fearnavult.h, each as it is worded there, and what its names stand for. Ends with status
+ * 1 at the first that is not so.
  */
 #include <stdint.h>
 #include <stdio.h>
@@ -45,6 +45,9 @@ static void names(void) {
     snprintf(version, sizeof version, "%d.%d.%d", FV_VERSION_MAJOR, FV_VERSION_MINOR, FV_VERSION_PATCH);
     expect("FV_VERSION", strcmp(FV_VERSION, version) == 0);
     expect("FV_DIGEST_LENGTH", strlen(DIGEST) == FV_DIGEST_LENGTH);
+    expect("FV_IDENTIFIER_LENGTH", fv_sequence_identifier(TEXT(""), out, 0, 0).value == FV_IDENTIFIER_LENGTH);
+    expect("FV_LOCATION_IDENTIFIER_LENGTH", fv_location_identifier(11, 1, 10, TEXT(DIGEST), out, 0, 0).value
+                                            == FV_LOCATION_IDENTIFIER_LENGTH);
 }
 
 static void sequences(void) {
@@ -81,6 +84,34 @@ static void overlapping(void) {
     const uint8_t *repeat = (const uint8_t *)REPEAT;
     expect("a slice that is only read", form_is(fv_normal_form(repeat, 11, 4, 4, repeat + 1, 3, out, 12, 0),
                                                 (fv_form){0, 0, 2, 1, 10, 12, 3, 0, 6, 0}, "CAGCAGCAGCAG"));
+}
+
+static uint64_t location_refused(uint64_t reference_length) {
+    return fv_location_text(reference_length, 0, 0, TEXT(DIGEST), out, 0, 0).refusal;
+}
+
+static uint64_t form_refused(const uint8_t *replacement, size_t length) {
+    return fv_normal_form(TEXT(REPEAT), 0, 11, replacement, length, out, 0, 0).refusal;
+}
+
+/* Whether blank refuses these capacities in no room with this value: 0 where one is over its limit. */
+static int blank_refused(uint64_t records, uint64_t journal, uint64_t pool, uint64_t value) {
+    return answered(fv_blank(out, 0, 11, TEXT(DIGEST), records, journal, pool), FV_BAD_CAPACITY, value);
+}
+
+/* What is at a limit passes its test, and what is one above does not. */
+static void limits(void) {
+    static uint8_t replacement[FV_REPLACEMENT_LIMIT + 1];
+    const uint64_t count = FV_COUNT_LIMIT, pool = FV_POOL_LIMIT;
+    memset(replacement, 'A', sizeof replacement);
+    expect("FV_REFERENCE_LIMIT", location_refused(FV_REFERENCE_LIMIT) == FV_NO_ROOM);
+    expect("FV_REFERENCE_LIMIT", location_refused(FV_REFERENCE_LIMIT + 1) == FV_OVER_LIMIT);
+    expect("FV_REPLACEMENT_LIMIT", form_refused(replacement, FV_REPLACEMENT_LIMIT) == FV_NO_ROOM);
+    expect("FV_REPLACEMENT_LIMIT", form_refused(replacement, FV_REPLACEMENT_LIMIT + 1) == FV_OVER_LIMIT);
+    expect("FV_IMAGE_SIZE", blank_refused(count, count, pool, FV_IMAGE_SIZE(count, count, pool)));
+    expect("FV_COUNT_LIMIT", blank_refused(count + 1, count, pool, 0));
+    expect("FV_COUNT_LIMIT", blank_refused(count, count + 1, pool, 0));
+    expect("FV_POOL_LIMIT", blank_refused(count, count, pool + 1, 0));
 }
 
 static int identified(fv_identified i, const char *text) {
@@ -193,6 +224,7 @@ int main(void) {
     sequences();
     forms();
     overlapping();
+    limits();
     texts_written();
     texts_read();
     registers();
