@@ -1,7 +1,8 @@
 #!/bin/sh
 # tests/installed.sh PREFIX: what ./install has put under PREFIX is all that it is to put there, and so it is under a
 # DESTDIR; pkg-config finds it; the archive asks for no more than the header says; the two libraries have the header's
-# calls and no other names; the header is C99, C11 and C++11.
+# calls and no other names; the header is C99, C11 and C++11; the program tells its version, and ./run starts it where
+# the caller stands.
 set -eu
 cd "$(dirname "$0")/.."
 . tests/machine.sh
@@ -40,9 +41,11 @@ cmp include/fearnavult.h "$packed/include/fearnavult.h"
 # The preprocessor leaves the three parts of the version as three texts, one after the other.
 version=$(printf '#include "fearnavult.h"\nFV_VERSION\n' | gcc -E -P -Iinclude - | tail -n 1 | tr -d '" ')
 pc "$(cd "$prefix" && pwd)" | is "$prefix/lib/pkgconfig/fearnavult.pc" "fearnavult.pc is not as it is to be"
-pc /opt/fearnavult | is "$packed/lib/pkgconfig/fearnavult.pc" "fearnavult.pc does not name PREFIX alone under a DESTDIR"
+pc /opt/fearnavult |
+    is "$packed/lib/pkgconfig/fearnavult.pc" "fearnavult.pc does not name PREFIX alone under a DESTDIR"
 echo "$version" >"$built/version"
-sed -n 's/^## \([0-9.]*\).*/\1/p' CHANGELOG.md | head -n 1 | is "$built/version" "CHANGELOG.md begins with another version"
+sed -n 's/^## \([0-9.]*\).*/\1/p' CHANGELOG.md | head -n 1 |
+    is "$built/version" "CHANGELOG.md begins with another version"
 
 nm -u "$prefix/lib/libfearnavult.a" | sed -n 's/^ *U //p' | LC_ALL=C sort -u >"$built/asked"
 printf '%s\n' memcpy memset | is "$built/asked" "the archive asks for other names than memcpy and memset"
@@ -78,3 +81,14 @@ if [ "$(uname -m)" = x86_64 ] && command -v pkg-config >/dev/null; then
     python3 -B tests/second/register_example.py |
         is "$built/register_shared.stdout" "examples/register.c over the shared library prints otherwise"
 fi
+
+start "$prefix/bin/fearnavult"
+$started --version >"$built/version"
+echo "fearnavult $version" | is "$built/version" "the program tells another version"
+printf '>cag\nTCAGCAGCAGT\n' >"$built/cag.fa"
+(cd "$built" && ../../run fearnavult identify -r cag.fa --tsv 4 4 CAG) | tail -n 1 >"$built/identified"
+printf 'allele\tga4gh:VA.AI9QWkPg6MybxSaPDP38hunMAsLzNpmS\n' |
+    is "$built/identified" "./run fearnavult prints otherwise"
+status=0
+./run fearnavult identify -r "$built/cag.fa" 9 4 CAG 2>"$built/refused" || status=$?
+[ "$status" -eq 1 ] || { echo "tests: FAILED: ./run does not end as the program does" >&2; exit 1; }
