@@ -95,12 +95,7 @@ make_shared() {
         --whole-archive "$archive" --no-whole-archive "$lib/libc.so.6"
 }
 
-# make_program PROGRAM: the program fearnavult over make_archive's archive, where it is older than what it is built
-# from. started is then the words that start it. Over another archive it is made old, so as not to be taken for this.
+# make_program PROGRAM: the program fearnavult over make_archive's archive. started is then the words that start it.
 make_program() {
-    start "$1"
-    if ! [ -e "$1" ] || [ -n "$(find program include tests/libc tests/machine.sh "$archive" -newer "$1")" ]; then
-        build_over "$archive" -D_POSIX_C_SOURCE=200809L "$1" program/*.c
-        [ -z "${FV_ARCHIVE:-}" ] || touch -t 197001010000 "$1"
-    fi
+    build_over "$archive" -D_POSIX_C_SOURCE=200809L "$1" program/*.c
 }
