@@ -1,14 +1,24 @@
 """Holds the documents to the tree: every file that they name is there, every definition, law and call that
 docs/DEMANDS.md and docs/CALLS.md name is written somewhere, and what a row of DEMANDS.md states stands in a file that
 the row names.
+
+With words, which start the program fearnavult, it holds the consoles of docs/PROGRAM.md to the program instead: every
+command that they show, in a copy of examples/lab, prints what stands under it.
 """
+import os
 import re
+import shlex
+import shutil
+import subprocess
 import sys
+from difflib import unified_diff
 from glob import glob
 from pathlib import Path
+from tempfile import TemporaryDirectory
 
 DOCUMENTS = ("README.md", "CHANGELOG.md", *sorted(glob("docs/*.md")))
 QUOTING = ("docs/DEMANDS.md", "docs/CALLS.md")
+CONSOLES = "docs/PROGRAM.md"
 FILE = re.compile(r"[\w.*/-]+/[\w.*-]+\.(?:antt|rt|md|py|c|h|sh|txt|edit)\b")
 # Words that stand for a name.
 STANDS_FOR = re.compile(r"NAME|MODULE|FUNCTION|LABEL|PREFIX")
@@ -56,7 +66,42 @@ def statements_elsewhere():
         yield from (name for name in re.findall(r"`([A-Za-z][\w-]*)`", cells[1]) if texts and name not in words)
 
 
-def main():
+def commands_shown(document):
+    """The commands of a document's indented blocks, a line `$ COMMAND` each, with the lines that stand under them."""
+    blocks = re.findall(r"(?m)(?:^    .*\n(?:\n(?=    ))*)+", Path(document).read_text("utf-8"))
+    for block in blocks:
+        for shown in re.split(r"(?m)^    \$ ", block)[1:]:
+            command, *lines = shown.splitlines()
+            yield command, [line.removeprefix("    ") for line in lines]
+
+
+def lines_printed(command, folder, programs):
+    """The lines that a command prints, on standard output and standard error as they come."""
+    environment = {**os.environ, "LC_ALL": "C", "PATH": f"{programs}:{os.environ['PATH']}"}
+    done = subprocess.run(["sh", "-c", command], cwd=folder, env=environment, stdin=subprocess.DEVNULL,
+                          stdout=subprocess.PIPE, stderr=subprocess.STDOUT, check=False)
+    return done.stdout.decode("utf-8", "replace").splitlines()
+
+
+def follow(words):
+    """Types the commands of the consoles, in order, and tells the first that prints something else."""
+    with TemporaryDirectory() as folder:
+        laboratory, programs = Path(folder, "lab"), Path(folder, "bin")
+        shutil.copytree("examples/lab", laboratory)
+        programs.mkdir()
+        program = programs / "fearnavult"
+        program.write_text(f'#!/bin/sh\nexec {shlex.join(words)} "$@"\n', "utf-8")
+        program.chmod(0o755)
+        commands = list(commands_shown(CONSOLES))
+        for command, shown in commands:
+            lines = lines_printed(command, laboratory, programs)
+            if lines != shown:
+                difference = unified_diff(shown, lines, CONSOLES, "printed", lineterm="")
+                sys.exit("\n".join((f"documents: FAILED: $ {command}", *difference)))
+    print(f"documents: ok, {len(commands)} commands of {CONSOLES}")
+
+
+def hold_to_tree():
     words = names_written()
     missing = [f"{document} names {name}" for document in DOCUMENTS for name in files_missing(document)]
     missing += [f"{document} names {name}" for document in QUOTING for name in names_missing(document, words)]
@@ -64,6 +109,14 @@ def main():
     if missing:
         sys.exit("documents: FAILED: " + "; ".join(missing))
     print(f"documents: ok, {len(DOCUMENTS)} of them")
+
+
+def main():
+    words = [os.path.abspath(word) if os.path.exists(word) else word for word in sys.argv[1:]]
+    if words:
+        follow(words)
+    else:
+        hold_to_tree()
 
 
 main()
