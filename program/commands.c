@@ -7,41 +7,36 @@
 #include <stdlib.h>
 #include <string.h>
 
-static void expect_accepted(uint64_t refusal, uint64_t value) {
-    if (refusal != FV_ACCEPTED)
-        refuse(refusal, value);
+static void read_identified(session *s) {
+    read_reference(&s->f, s->o.reference, s->o.sequence);
+    identify_reference(&s->f);
 }
 
-static void read_identified(reference *f, const options *o) {
-    read_reference(f, o->reference, o->sequence);
-    identify_reference(f);
-}
-
-fv_entered enter(register_file *r, const reference *f, const allele *a) {
-    return fv_entry(r->image.at, r->image.length, digest_of(f), FV_DIGEST_LENGTH, f->residues.at, f->residues.length,
-                    a->start, a->end, a->replacement.at, a->replacement.length);
+fv_entered enter_allele(session *s, const allele *given) {
+    return fv_entry(s->r.image.at, s->r.image.length, s->f.digest, FV_DIGEST_LENGTH, s->f.residues.at,
+                    s->f.residues.length, given->start, given->end, given->replacement.at, given->replacement.length);
 }
 
 /* An entry that can't be accepted tells whether the reference is the register's, and changes nothing. */
-static void expect_own_reference(register_file *r, const reference *f) {
+static void expect_own_reference(session *s) {
     allele backwards = {1, 0, text_of("")};
-    fv_entered e = enter(r, f, &backwards);
+    fv_entered e = enter_allele(s, &backwards);
     if (e.refusal != FV_START_ABOVE_END)
         refuse(e.refusal, e.value);
 }
 
-static uint64_t numbers_issued(const register_file *r) {
-    return fv_read_record(r->image.at, r->image.length, 0).value;
+static uint64_t numbers_issued(const session *s) {
+    return fv_read_record(s->r.image.at, s->r.image.length, 0).value;
 }
 
-static fv_record record_of(const register_file *r, uint64_t number) {
-    fv_record record = fv_read_record(r->image.at, r->image.length, number);
+static fv_record record_of(const session *s, uint64_t number) {
+    fv_record record = fv_read_record(s->r.image.at, s->r.image.length, number);
     expect_accepted(record.refusal, record.value);
     return record;
 }
 
-static allele allele_of(const register_file *r, const fv_record *record) {
-    return (allele){record->start, record->end, {r->image.at + record->offset, record->length}};
+static allele allele_of(const session *s, const fv_record *record) {
+    return (allele){record->start, record->end, {s->r.image.at + record->offset, record->length}};
 }
 
 static void add_interval(table *t, const allele *a) {
@@ -50,29 +45,29 @@ static void add_interval(table *t, const allele *a) {
     add_bytes(t, a->replacement);
 }
 
-static allele add_record(table *t, const register_file *r, uint64_t number) {
-    fv_record record = record_of(r, number);
-    allele a = allele_of(r, &record);
-    add_number(t, number);
-    add_words(t, record.status == FV_ACTIVE ? "active" : "inactive");
-    add_interval(t, &a);
+static allele add_record(session *s, uint64_t number) {
+    fv_record record = record_of(s, number);
+    allele a = allele_of(s, &record);
+    add_number(&s->t, number);
+    add_words(&s->t, record.status == FV_ACTIVE ? "active" : "inactive");
+    add_interval(&s->t, &a);
     return a;
 }
 
 static fv_identified identify(const reference *f, const allele *a, uint8_t identifier[FV_IDENTIFIER_LENGTH]) {
     return fv_allele_identifier(f->residues.at, f->residues.length, a->start, a->end, a->replacement.at,
-                                a->replacement.length, digest_of(f), FV_DIGEST_LENGTH, identifier,
-                                FV_IDENTIFIER_LENGTH, 0);
+                                a->replacement.length, f->digest, FV_DIGEST_LENGTH, identifier, FV_IDENTIFIER_LENGTH,
+                                0);
 }
 
 /* A record's replacement may be longer than the library takes one: then it is refused, and this answers 1. */
-static int add_identifier(table *t, const reference *f, const allele *a) {
+static int add_identifier(session *s, const allele *a) {
     uint8_t identifier[FV_IDENTIFIER_LENGTH];
-    fv_identified i = identify(f, a, identifier);
+    fv_identified i = identify(&s->f, a, identifier);
     if (i.refusal == FV_ACCEPTED)
-        add_bytes(t, (text){identifier, i.length});
+        add_bytes(&s->t, (text){identifier, sizeof identifier});
     else
-        add_refusal(t, i.refusal, i.value);
+        add_refusal(&s->t, i.refusal, i.value);
     return i.refusal != FV_ACCEPTED;
 }
 
@@ -86,251 +81,204 @@ void add_form(table *t, const fv_form *form, const uint8_t *replacement) {
     add_moved(t, form->right_widened, form->right_shrunk);
 }
 
-void add_entered(table *t, const register_file *r, const reference *f, const allele *given, const fv_entered *e) {
+void add_entered(session *s, const allele *given, const fv_entered *e) {
     static const char *const answers[] = {[FV_NEW] = "new", [FV_AGAIN] = "again", [FV_KNOWN] = "known"};
-    fv_record record = record_of(r, e->number);
-    allele normal = allele_of(r, &record);
-    add_words(t, answers[e->answer]);
-    add_number(t, e->number);
-    add_interval(t, &normal);
-    add_moved(t, e->left_widened, e->left_shrunk);
-    add_moved(t, e->right_widened, e->right_shrunk);
-    add_identifier(t, f, given);
+    fv_record record = record_of(s, e->number);
+    allele normal = allele_of(s, &record);
+    add_words(&s->t, answers[e->answer]);
+    add_number(&s->t, e->number);
+    add_interval(&s->t, &normal);
+    add_moved(&s->t, e->left_widened, e->left_shrunk);
+    add_moved(&s->t, e->right_widened, e->right_shrunk);
+    add_identifier(s, given);
 }
 
-/* Room for an image. Where a capacity is over its limit fv_blank says so, and needs none. */
-static void make_room(buffer *image, const options *o) {
+/* An image of zeros. Where a capacity is over its limit fv_blank says so, and needs none. */
+static void make_image(buffer *image, const options *o) {
     bool within = o->records <= FV_COUNT_LIMIT && o->journal <= FV_COUNT_LIMIT && o->pool <= FV_POOL_LIMIT;
-    free(image->at);
-    *image = (buffer){0};
+    image->length = 0;
     reserve(image, within ? FV_IMAGE_SIZE(o->records, o->journal, o->pool) : 0);
     image->length = within ? FV_IMAGE_SIZE(o->records, o->journal, o->pool) : 0;
     memset(image->at, 0, image->length);
 }
 
-int blank_command(const options *o) {
-    register_file r;
-    reference f;
-    table t;
-    open_register_to_blank(&r, o->register_name, o->force);
-    read_identified(&f, o);
-    make_room(&r.image, o);
-    fv_outcome made = fv_blank(r.image.at, r.image.length, f.residues.length, digest_of(&f), FV_DIGEST_LENGTH,
+int blank_command(session *s) {
+    const options *o = &s->o;
+    open_register_to_blank(&s->r, o->register_name, o->force);
+    read_identified(s);
+    make_image(&s->r.image, o);
+    fv_outcome made = fv_blank(s->r.image.at, s->r.image.length, s->f.residues.length, s->f.digest, FV_DIGEST_LENGTH,
                                o->records, o->journal, o->pool);
     expect_accepted(made.refusal, made.value);
-    save_register(&r);
-    begin_table(&t, "answer records journal pool sequence residues identifier", o);
-    add_words(&t, "blank");
-    add_number(&t, o->records);
-    add_number(&t, o->journal);
-    add_number(&t, o->pool);
-    add_bytes(&t, bytes_of(&f.name));
-    add_number(&t, f.residues.length);
-    add_bytes(&t, (text){f.identifier, sizeof f.identifier});
-    end_table(&t);
-    drop_reference(&f);
-    close_register(&r);
+    save_register(&s->r);
+    begin_table(&s->t, "answer records journal pool sequence residues identifier", o->tsv);
+    add_words(&s->t, "blank");
+    add_number(&s->t, o->records);
+    add_number(&s->t, o->journal);
+    add_number(&s->t, o->pool);
+    add_bytes(&s->t, bytes_of(&s->f.name));
+    add_number(&s->t, s->f.residues.length);
+    add_bytes(&s->t, (text){s->f.identifier, sizeof s->f.identifier});
+    print_table(&s->t);
     return 0;
 }
 
-/* A register whose save fails answers nothing. */
-static void enter_given(const options *o, register_file *r, const reference *f) {
-    table t;
-    fv_entered e = enter(r, f, &o->given);
+int enter_command(session *s) {
+    open_register_to_change(&s->r, s->o.register_name);
+    read_identified(s);
+    if (s->o.vcf != NULL) {
+        expect_own_reference(s);
+        return take_calls(s, true);
+    }
+    fv_entered e = enter_allele(s, &s->o.given);
     expect_accepted(e.refusal, e.value);
     if (e.answer != FV_KNOWN)
-        save_register(r);
-    begin_table(&t, "answer number start end replacement left right identifier", o);
-    add_entered(&t, r, f, &o->given, &e);
-    end_table(&t);
-}
-
-int enter_command(const options *o) {
-    register_file r;
-    reference f;
-    int status = 0;
-    open_register_to_change(&r, o->register_name);
-    read_identified(&f, o);
-    if (o->vcf == NULL) {
-        enter_given(o, &r, &f);
-    } else {
-        expect_own_reference(&r, &f);
-        status = take_calls(o, &f, &r);
-    }
-    drop_reference(&f);
-    close_register(&r);
-    return status;
+        save_register(&s->r);
+    begin_table(&s->t, "answer number start end replacement left right identifier", s->o.tsv);
+    add_entered(s, &s->o.given, &e);
+    print_table(&s->t);
+    return 0;
 }
 
 /* Saves a register in which a number has changed, and shows it as it now stands. */
-static int save_changed(const options *o, register_file *r, const char *answer, uint64_t number) {
-    table t;
-    save_register(r);
-    begin_table(&t, "answer number status start end replacement", o);
-    add_words(&t, answer);
-    add_record(&t, r, number);
-    end_table(&t);
-    close_register(r);
+static int save_changed(session *s, const char *answer, uint64_t number) {
+    save_register(&s->r);
+    begin_table(&s->t, "answer number status start end replacement", s->o.tsv);
+    add_words(&s->t, answer);
+    add_record(s, number);
+    print_table(&s->t);
     return 0;
 }
 
-int withdraw_command(const options *o) {
-    register_file r;
-    open_register_to_change(&r, o->register_name);
-    fv_outcome withdrawn = fv_withdraw(r.image.at, r.image.length, o->number);
+int withdraw_command(session *s) {
+    open_register_to_change(&s->r, s->o.register_name);
+    fv_outcome withdrawn = fv_withdraw(s->r.image.at, s->r.image.length, s->o.number);
     expect_accepted(withdrawn.refusal, withdrawn.value);
-    return save_changed(o, &r, "withdrawn", o->number);
+    return save_changed(s, "withdrawn", s->o.number);
 }
 
-int undo_command(const options *o) {
-    register_file r;
-    open_register_to_change(&r, o->register_name);
-    fv_undone undone = fv_undo(r.image.at, r.image.length);
+int undo_command(session *s) {
+    open_register_to_change(&s->r, s->o.register_name);
+    fv_undone undone = fv_undo(s->r.image.at, s->r.image.length);
     expect_accepted(undone.refusal, undone.value);
-    return save_changed(o, &r, "undone", undone.number);
+    return save_changed(s, "undone", undone.number);
 }
 
-/* With nothing to seal no byte changes, and nothing is saved. */
-int seal_command(const options *o) {
-    register_file r;
-    buffer before = {0};
-    table t;
-    open_register_to_change(&r, o->register_name);
-    append(&before, r.image.at, r.image.length);
-    fv_outcome sealed = fv_seal(r.image.at, r.image.length);
+/* With nothing to undo there is nothing to seal: no byte changes, and nothing is saved. */
+int seal_command(session *s) {
+    buffer tried = {0};
+    open_register_to_change(&s->r, s->o.register_name);
+    append(&tried, s->r.image.at, s->r.image.length);
+    bool changes = fv_undo(tried.at, tried.length).refusal == FV_ACCEPTED;
+    free(tried.at);
+    fv_outcome sealed = fv_seal(s->r.image.at, s->r.image.length);
     expect_accepted(sealed.refusal, sealed.value);
-    if (!same(bytes_of(&before), bytes_of(&r.image)))
-        save_register(&r);
-    begin_table(&t, "answer", o);
-    add_words(&t, "sealed");
-    end_table(&t);
-    free(before.at);
-    close_register(&r);
+    if (changes)
+        save_register(&s->r);
+    begin_table(&s->t, "answer", s->o.tsv);
+    add_words(&s->t, "sealed");
+    print_table(&s->t);
     return 0;
 }
 
 /* Opens the register and, where one is named, its own reference. */
-static void open_to_read(register_file *r, reference *f, const options *o) {
-    open_register(r, o->register_name);
-    if (o->reference == NULL)
+static void open_to_read(session *s) {
+    open_register(&s->r, s->o.register_name);
+    if (s->o.reference == NULL)
         return;
-    read_identified(f, o);
-    expect_own_reference(r, f);
+    read_identified(s);
+    expect_own_reference(s);
 }
 
 /* The numbers from one to another, with their identifiers where there is a reference. */
-static int print_records(const options *o, const register_file *r, const reference *f, uint64_t first, uint64_t last) {
-    bool identified = o->reference != NULL;
-    table t;
+static int print_records(session *s, uint64_t first, uint64_t last) {
+    bool identified = s->o.reference != NULL;
     int status = 0;
-    begin_table(&t, identified ? "number status start end replacement identifier" : "number status start end replacement",
-                o);
+    begin_table(&s->t, identified ? "number status start end replacement identifier"
+                                  : "number status start end replacement", s->o.tsv);
     for (uint64_t number = first; number <= last; number++) {
-        allele a = add_record(&t, r, number);
+        allele a = add_record(s, number);
         if (identified)
-            status |= add_identifier(&t, f, &a);
+            status |= add_identifier(s, &a);
     }
-    end_table(&t);
+    print_table(&s->t);
     return status;
 }
 
-int list_command(const options *o) {
-    register_file r;
-    reference f = {0};
-    open_to_read(&r, &f, o);
-    int status = print_records(o, &r, &f, 1, numbers_issued(&r));
-    drop_reference(&f);
-    close_register(&r);
+int list_command(session *s) {
+    open_to_read(s);
+    return print_records(s, 1, numbers_issued(s));
+}
+
+int show_command(session *s) {
+    open_to_read(s);
+    fv_record record = record_of(s, s->o.number);
+    allele normal = allele_of(s, &record);
+    int status = print_records(s, s->o.number, s->o.number);
+    if (s->o.reference != NULL && !s->o.tsv)
+        print_picture(&s->f, NULL, &normal);
     return status;
 }
 
-int show_command(const options *o) {
-    register_file r;
-    reference f = {0};
-    open_to_read(&r, &f, o);
-    fv_record record = record_of(&r, o->number);
-    allele normal = allele_of(&r, &record);
-    int status = print_records(o, &r, &f, o->number, o->number);
-    if (o->reference != NULL && !o->tsv)
-        print_picture(&f, NULL, &normal);
-    drop_reference(&f);
-    close_register(&r);
-    return status;
-}
-
-static fv_form form_on(const reference *f, const allele *a, const buffer *out) {
-    return fv_normal_form(f->residues.at, f->residues.length, a->start, a->end, a->replacement.at,
+static fv_form form_given(const session *s, const buffer *out) {
+    const allele *a = &s->o.given;
+    return fv_normal_form(s->f.residues.at, s->f.residues.length, a->start, a->end, a->replacement.at,
                           a->replacement.length, out->at, out->room, 0);
 }
 
-static void form_given(const options *o, const reference *f) {
-    table t;
+int form_command(session *s) {
     buffer out = {0};
+    read_reference(&s->f, s->o.reference, s->o.sequence);
+    if (s->o.vcf != NULL)
+        return take_calls(s, false);
     reserve(&out, 0);
-    fv_form form = form_on(f, &o->given, &out);
+    fv_form form = form_given(s, &out);
     if (form.refusal == FV_NO_ROOM) {
         reserve(&out, form.value);
-        form = form_on(f, &o->given, &out);
+        form = form_given(s, &out);
     }
     expect_accepted(form.refusal, form.value);
-    begin_table(&t, "kind start end replacement left right", o);
-    add_form(&t, &form, out.at);
-    end_table(&t);
+    begin_table(&s->t, "kind start end replacement left right", s->o.tsv);
+    add_form(&s->t, &form, out.at);
+    print_table(&s->t);
     allele normal = {form.start, form.end, {out.at, form.length}};
-    if (!o->tsv)
-        print_picture(f, &o->given, &normal);
+    if (!s->o.tsv)
+        print_picture(&s->f, &s->o.given, &normal);
     free(out.at);
+    return 0;
 }
 
-int form_command(const options *o) {
-    reference f;
-    int status = 0;
-    read_reference(&f, o->reference, o->sequence);
-    if (o->vcf == NULL)
-        form_given(o, &f);
-    else
-        status = take_calls(o, &f, NULL);
-    drop_reference(&f);
-    return status;
-}
-
-static void add_pair(table *t, const char *of, const uint8_t *identifier, size_t length) {
+static void add_named(table *t, const char *of, const uint8_t *identifier, size_t length) {
     add_words(t, of);
     add_bytes(t, (text){identifier, length});
 }
 
-int identify_command(const options *o) {
-    reference f;
-    table t;
+int identify_command(session *s) {
     uint8_t location[FV_LOCATION_IDENTIFIER_LENGTH], identifier[FV_IDENTIFIER_LENGTH];
-    read_identified(&f, o);
-    fv_identified i = identify(&f, &o->given, identifier);
+    read_identified(s);
+    fv_identified i = identify(&s->f, &s->o.given, identifier);
     expect_accepted(i.refusal, i.value);
-    uint64_t start = o->given.start - i.left_widened + i.left_shrunk;
-    uint64_t end = o->given.end + i.right_widened - i.right_shrunk;
-    fv_written w = fv_location_identifier(f.residues.length, start, end, digest_of(&f), FV_DIGEST_LENGTH, location,
+    uint64_t start = s->o.given.start - i.left_widened + i.left_shrunk;
+    uint64_t end = s->o.given.end + i.right_widened - i.right_shrunk;
+    fv_written w = fv_location_identifier(s->f.residues.length, start, end, s->f.digest, FV_DIGEST_LENGTH, location,
                                           sizeof location, 0);
     expect_accepted(w.refusal, w.value);
-    begin_table(&t, "of identifier", o);
-    add_pair(&t, "sequence", f.identifier, sizeof f.identifier);
-    add_pair(&t, "location", location, sizeof location);
-    add_pair(&t, "allele", identifier, sizeof identifier);
-    end_table(&t);
-    drop_reference(&f);
+    begin_table(&s->t, "of identifier", s->o.tsv);
+    add_named(&s->t, "sequence", s->f.identifier, sizeof s->f.identifier);
+    add_named(&s->t, "location", location, sizeof location);
+    add_named(&s->t, "allele", identifier, sizeof identifier);
+    print_table(&s->t);
     return 0;
 }
 
-int check_command(const options *o) {
-    register_file r;
-    table t;
-    open_register(&r, o->register_name);
-    uint64_t numbers = numbers_issued(&r), active = 0;
-    for (uint64_t number = 1; number <= numbers; number++) active += record_of(&r, number).status == FV_ACTIVE;
-    begin_table(&t, "answer numbers active", o);
-    add_words(&t, "well formed");
-    add_number(&t, numbers);
-    add_number(&t, active);
-    end_table(&t);
-    close_register(&r);
+int check_command(session *s) {
+    open_register(&s->r, s->o.register_name);
+    uint64_t numbers = numbers_issued(s), active = 0;
+    for (uint64_t number = 1; number <= numbers; number++) active += record_of(s, number).status == FV_ACTIVE;
+    begin_table(&s->t, "answer numbers active", s->o.tsv);
+    add_words(&s->t, "well formed");
+    add_number(&s->t, numbers);
+    add_number(&s->t, active);
+    print_table(&s->t);
     return 0;
 }

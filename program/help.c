@@ -31,98 +31,87 @@ static const char all[] =
     "\n"
     "Status 0: accepted; 1: refused; 2: used wrongly, or a file can't be read or written.\n";
 
-static const char blank[] =
-    "fearnavult blank REGISTER -r REF.fa [--name SEQ] [--records N] [--journal N] [--pool N] [--force] [--tsv]\n"
-    "\n"
-    "Makes the file REGISTER: a register without numbers, of one reference.\n"
-    "\n"
-    "--records N   how many numbers it can issue: at most, and unless told, 10000\n"
-    "--journal N   how many changes it can take back: at most, and unless told, 10000\n"
-    "--pool N      how many residues its replacements can have together: at most 10000000, unless told 1000000\n"
-    "--force       over a register that is there; it is lost. No other file is written over\n"
-    "\n"
-    "    fearnavult blank panel.fv -r panel.fa --name chr7\n";
-
-static const char enter_page[] =
-    "fearnavult enter REGISTER -r REF.fa [--name SEQ] START END REPLACEMENT [--tsv]\n"
-    "fearnavult enter REGISTER -r REF.fa [--name SEQ] --vcf CALLS.vcf|- [--every N] [--tsv]\n"
-    "\n"
-    "Enters an allele, or each alternate of each line of a VCF file (- is standard input), in its normal form.\n"
-    "The answer is new (the next number is issued), again (an inactive number is active again) or known. left and\n"
-    "right tell how far the interval moved: +3 widened, -1 shrunk. The register is saved before this is printed.\n"
-    "\n"
-    "--every N   save after every N lines and print their rows then, not only at the end\n"
-    "\n"
-    "    fearnavult enter panel.fv -r panel.fa 4 4 CAG\n"
-    "    fearnavult enter panel.fv -r panel.fa --vcf calls.vcf\n";
-
-static const char withdraw[] =
-    "fearnavult withdraw REGISTER NUMBER [--tsv]\n"
-    "\n"
-    "Makes an active number inactive. Its allele keeps it: entered again, it is active again.\n"
-    "\n"
-    "    fearnavult withdraw panel.fv 3\n";
-
-static const char undo[] =
-    "fearnavult undo REGISTER [--tsv]\n"
-    "\n"
-    "Takes the latest change back, an entry or a withdrawal, and shows its number as it now stands. A number once\n"
-    "issued stays its allele's. After a seal there is nothing to undo.\n"
-    "\n"
-    "    fearnavult undo panel.fv\n";
-
-static const char seal[] =
-    "fearnavult seal REGISTER [--tsv]\n"
-    "\n"
-    "Makes all changes so far final, which frees the journal for others.\n"
-    "\n"
-    "    fearnavult seal panel.fv\n";
-
-static const char list[] =
-    "fearnavult list REGISTER [-r REF.fa [--name SEQ]] [--tsv]\n"
-    "\n"
-    "Prints all numbers, active or not, with their alleles; with the reference also their GA4GH identifiers.\n"
-    "\n"
-    "    fearnavult list panel.fv -r panel.fa\n";
-
-static const char show[] =
-    "fearnavult show REGISTER NUMBER [-r REF.fa [--name SEQ]] [--tsv]\n"
-    "\n"
-    "Prints one number; with the reference also its GA4GH identifier and, without --tsv, a picture.\n"
-    "\n"
-    "    fearnavult show panel.fv 3 -r panel.fa\n";
-
-static const char form[] =
-    "fearnavult form -r REF.fa [--name SEQ] START END REPLACEMENT [--tsv]\n"
-    "fearnavult form -r REF.fa [--name SEQ] --vcf CALLS.vcf|- [--tsv]\n"
-    "\n"
-    "Prints the normal form of an allele, with a picture, or of each alternate of each line of a VCF file (- is\n"
-    "standard input). left and right tell how far the interval moved: +3 widened, -1 shrunk.\n"
-    "\n"
-    "    fearnavult form -r panel.fa 4 4 CAG\n"
-    "    fearnavult form -r panel.fa --vcf calls.vcf --tsv\n";
-
-static const char identify[] =
-    "fearnavult identify -r REF.fa [--name SEQ] START END REPLACEMENT [--tsv]\n"
-    "\n"
-    "Prints the GA4GH identifiers of the sequence, of the normal form's location, and of the allele.\n"
-    "\n"
-    "    fearnavult identify -r panel.fa 4 4 CAG\n";
-
-static const char check[] =
-    "fearnavult check REGISTER [--tsv]\n"
-    "\n"
-    "Tests whether a register is well formed, and counts its numbers and those that are active.\n"
-    "\n"
-    "    fearnavult check panel.fv\n";
+static const struct {
+    const char *command, *page;
+} pages[] = {
+    {"blank",
+     "fearnavult blank REGISTER -r REF.fa [--name SEQ] [--records N] [--journal N] [--pool N] [--force] [--tsv]\n"
+     "\n"
+     "Makes the file REGISTER: a register without numbers, of one reference.\n"
+     "\n"
+     "--records N   how many numbers it can issue: at most, and unless told, 10000\n"
+     "--journal N   how many changes it can take back: at most, and unless told, 10000\n"
+     "--pool N      how many residues its replacements can have together: at most 10000000, unless told 1000000\n"
+     "--force       over a register that is there; it is lost. No other file is written over\n"
+     "\n"
+     "    fearnavult blank panel.fv -r panel.fa --name chr7\n"},
+    {"enter",
+     "fearnavult enter REGISTER -r REF.fa [--name SEQ] START END REPLACEMENT [--tsv]\n"
+     "fearnavult enter REGISTER -r REF.fa [--name SEQ] --vcf CALLS.vcf|- [--every N] [--tsv]\n"
+     "\n"
+     "Enters an allele, or each alternate of each line of a VCF file (- is standard input), in its normal form.\n"
+     "The answer is new (the next number is issued), again (an inactive number is active again) or known. left and\n"
+     "right tell how far the interval moved: +3 widened, -1 shrunk. The register is saved before this is printed.\n"
+     "\n"
+     "--every N   save after every N lines and print their rows then, not only at the end\n"
+     "\n"
+     "    fearnavult enter panel.fv -r panel.fa 4 4 CAG\n"
+     "    fearnavult enter panel.fv -r panel.fa --vcf calls.vcf\n"},
+    {"withdraw",
+     "fearnavult withdraw REGISTER NUMBER [--tsv]\n"
+     "\n"
+     "Makes an active number inactive. Its allele keeps it: entered again, it is active again.\n"
+     "\n"
+     "    fearnavult withdraw panel.fv 3\n"},
+    {"undo",
+     "fearnavult undo REGISTER [--tsv]\n"
+     "\n"
+     "Takes the latest change back, an entry or a withdrawal, and shows its number as it now stands. A number once\n"
+     "issued stays its allele's. After a seal there is nothing to undo.\n"
+     "\n"
+     "    fearnavult undo panel.fv\n"},
+    {"seal",
+     "fearnavult seal REGISTER [--tsv]\n"
+     "\n"
+     "Makes all changes so far final, which frees the journal for others.\n"
+     "\n"
+     "    fearnavult seal panel.fv\n"},
+    {"list",
+     "fearnavult list REGISTER [-r REF.fa [--name SEQ]] [--tsv]\n"
+     "\n"
+     "Prints all numbers, active or not, with their alleles; with the reference also their GA4GH identifiers.\n"
+     "\n"
+     "    fearnavult list panel.fv -r panel.fa\n"},
+    {"show",
+     "fearnavult show REGISTER NUMBER [-r REF.fa [--name SEQ]] [--tsv]\n"
+     "\n"
+     "Prints one number; with the reference also its GA4GH identifier and, without --tsv, a picture.\n"
+     "\n"
+     "    fearnavult show panel.fv 3 -r panel.fa\n"},
+    {"form",
+     "fearnavult form -r REF.fa [--name SEQ] START END REPLACEMENT [--tsv]\n"
+     "fearnavult form -r REF.fa [--name SEQ] --vcf CALLS.vcf|- [--tsv]\n"
+     "\n"
+     "Prints the normal form of an allele, with a picture, or of each alternate of each line of a VCF file (- is\n"
+     "standard input). left and right tell how far the interval moved: +3 widened, -1 shrunk.\n"
+     "\n"
+     "    fearnavult form -r panel.fa 4 4 CAG\n"
+     "    fearnavult form -r panel.fa --vcf calls.vcf --tsv\n"},
+    {"identify",
+     "fearnavult identify -r REF.fa [--name SEQ] START END REPLACEMENT [--tsv]\n"
+     "\n"
+     "Prints the GA4GH identifiers of the sequence, of the normal form's location, and of the allele.\n"
+     "\n"
+     "    fearnavult identify -r panel.fa 4 4 CAG\n"},
+    {"check",
+     "fearnavult check REGISTER [--tsv]\n"
+     "\n"
+     "Tests whether a register is well formed, and counts its numbers and those that are active.\n"
+     "\n"
+     "    fearnavult check panel.fv\n"},
+};
 
 const char *help_page(const char *command) {
-    static const struct {
-        const char *command, *page;
-    } pages[] = {
-        {"blank", blank}, {"enter", enter_page}, {"withdraw", withdraw}, {"undo", undo}, {"seal", seal},
-        {"list", list},   {"show", show},        {"form", form},         {"identify", identify}, {"check", check},
-    };
     size_t i = 0, count = sizeof pages / sizeof *pages;
     while (command != NULL && i < count && strcmp(command, pages[i].command) != 0) i++;
     return command == NULL || i == count ? all : pages[i].page;

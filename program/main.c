@@ -26,7 +26,7 @@ enum {
 
 typedef struct {
     const char *name;
-    int (*answer)(const options *o);
+    int (*answer)(session *s);
     unsigned takes;
 } command;
 
@@ -180,7 +180,7 @@ static const command *find_command(const char *name) {
 }
 
 int main(int count, char **words) {
-    options o = {.records = 10000, .journal = 10000, .pool = 1000000};
+    session s = {.o = {.records = 10000, .journal = 10000, .pool = 1000000}};
     operands beside = {.count = 0};
     fill_standard_files();
     if (signal(SIGXFSZ, SIG_IGN) == SIG_ERR)
@@ -192,8 +192,8 @@ int main(int count, char **words) {
     if (strcmp(words[1], "--version") == 0)
         print_and_end("fearnavult " FV_VERSION "\n");
     const command *c = find_command(words[1]);
-    read_words(c, &o, &beside, words + 2);
-    expect_whole(c, &o, &beside);
-    take_operands(c, &o, &beside);
-    return c->answer(&o);
+    read_words(c, &s.o, &beside, words + 2);
+    expect_whole(c, &s.o, &beside);
+    take_operands(c, &s.o, &beside);
+    exit(c->answer(&s));
 }

@@ -13,16 +13,14 @@
 enum { POINTS = 4, FAR = 10, NEAR = 3, BRIDGED = 2, LABEL = 11, DOTS = 4, GAP = 5, WIDEST = 64, ROW = 128 };
 
 typedef struct {
-    uint64_t first;
-    uint64_t last;
+    uint64_t first, last;
     size_t column; /* of the first */
 } run;
 
 typedef struct {
     const buffer *residues;
     run runs[POINTS];
-    size_t count;
-    size_t width;
+    size_t count, width;
     buffer out;
 } picture;
 
@@ -112,11 +110,6 @@ static void draw_line(const picture *p, uint64_t one, uint64_t other, char row[R
     }
 }
 
-static void draw_interval(const picture *p, const allele *a, char row[ROW]) {
-    draw_line(p, a->start, a->end, row);
-    row[column_at(p, a->start)] = row[column_at(p, a->end)] = '|';
-}
-
 static void draw_moves(const picture *p, const allele *given, const allele *normal, char row[ROW]) {
     bool left = given->start != normal->start, right = given->end != normal->end;
     if (left)
@@ -132,39 +125,40 @@ static void draw_moves(const picture *p, const allele *given, const allele *norm
 }
 
 static void begin_row(picture *p, const char *label, const char row[ROW], size_t columns) {
-    append(&p->out, label, strlen(label));
+    append_words(&p->out, label);
     append_blanks(&p->out, LABEL - strlen(label));
     append(&p->out, row, columns);
 }
 
 static void end_row(picture *p, char row[ROW]) {
     while (p->out.at[p->out.length - 1] == ' ') p->out.length--;
-    append(&p->out, "\n", 1);
+    append_words(&p->out, "\n");
     memset(row, ' ', ROW);
 }
 
 static void add_interval(picture *p, const char *label, const allele *a, char row[ROW]) {
-    char words[WORDS_ROOM];
-    draw_interval(p, a, row);
+    draw_line(p, a->start, a->end, row);
+    row[column_at(p, a->start)] = row[column_at(p, a->end)] = '|';
     begin_row(p, label, row, p->width);
-    int length = snprintf(words, sizeof words, "  %" PRIu64 " %" PRIu64 " ", a->start, a->end);
-    append(&p->out, words, (size_t)length);
+    append_words(&p->out, "  ");
+    append_number(&p->out, a->start);
+    append_words(&p->out, " ");
+    append_number(&p->out, a->end);
+    append_words(&p->out, " ");
     append_elided(&p->out, a->replacement);
     end_row(p, row);
 }
 
-static void append_moved(picture *p, const char *side, uint64_t inner, uint64_t outer) {
-    char words[WORDS_ROOM];
-    moved_words(words, inner > outer ? inner - outer : 0, outer > inner ? outer - inner : 0);
-    append(&p->out, side, strlen(side));
-    append(&p->out, words, strlen(words));
+static void append_side(buffer *out, const char *side, uint64_t inner, uint64_t outer) {
+    append_words(out, side);
+    append_moved(out, inner > outer ? inner - outer : 0, outer > inner ? outer - inner : 0);
 }
 
 static void add_moves(picture *p, const allele *given, const allele *normal, char row[ROW]) {
     draw_moves(p, given, normal, row);
     begin_row(p, "moved", row, p->width);
-    append_moved(p, "  left ", given->start, normal->start);
-    append_moved(p, ", right ", normal->end, given->end);
+    append_side(&p->out, "  left ", given->start, normal->start);
+    append_side(&p->out, ", right ", normal->end, given->end);
     end_row(p, row);
 }
 
@@ -181,7 +175,7 @@ void print_picture(const reference *f, const allele *given, const allele *normal
     memset(row, ' ', ROW);
     qsort(points, POINTS, sizeof *points, ascending);
     lay_out(&p, points);
-    append(&p.out, "\n", 1);
+    append_words(&p.out, "\n");
     draw_numbers(&p, row);
     begin_row(&p, "position", row, ROW);
     end_row(&p, row);

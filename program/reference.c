@@ -21,8 +21,7 @@ typedef struct {
     reference *kept;
     const char *wanted; /* null: the first */
     buffer name;        /* of the sequence that is read */
-    uint64_t sequences;
-    uint64_t found;
+    uint64_t sequences, found;
     enum { LINE_START, NAME, AFTER_NAME, RESIDUES } where;
     bool keeping;
     bool return_held; /* a carriage return that is dropped where the line ends after it */
@@ -123,7 +122,6 @@ static void expect_one(const reader *r, const char *file) {
 
 void read_reference(reference *r, const char *file, const char *wanted) {
     static uint8_t piece[PIECE];
-    *r = (reference){0};
     reader reading = {.kept = r, .wanted = wanted};
     int opened = open(file, O_RDONLY | O_CLOEXEC);
     if (opened < 0)
@@ -145,15 +143,6 @@ void identify_reference(reference *r) {
         say("refused 4: byte %" PRIu64 " of the reference is no residue", w.value);
         exit(1);
     }
-    if (w.refusal != FV_ACCEPTED)
-        refuse(w.refusal, w.value);
-}
-
-const uint8_t *digest_of(const reference *r) {
-    return r->identifier + FV_IDENTIFIER_LENGTH - FV_DIGEST_LENGTH;
-}
-
-void drop_reference(reference *r) {
-    free(r->name.at);
-    free(r->residues.at);
+    expect_accepted(w.refusal, w.value);
+    r->digest = r->identifier + FV_IDENTIFIER_LENGTH - FV_DIGEST_LENGTH;
 }

@@ -14,9 +14,9 @@
 
 enum { PIECE = 1 << 16, MODE_BITS = 07777 };
 
-static char *joined(const char *path, size_t length, const char *ending) {
+static char *joined(const char *path, const char *ending) {
     buffer b = {0};
-    append(&b, path, length);
+    append_words(&b, path);
     append(&b, ending, strlen(ending) + 1);
     return (char *)b.at;
 }
@@ -25,13 +25,13 @@ static char *joined(const char *path, size_t length, const char *ending) {
 static char *path_of(const char *name) {
     char first;
     char *path = readlink(name, &first, 1) < 0 ? NULL : realpath(name, NULL);
-    return path != NULL ? path : joined(name, strlen(name), "");
+    return path != NULL ? path : joined(name, "");
 }
 
 /* Held until the program ends. */
 static void lock_register(const register_file *r) {
     struct flock whole = {.l_type = F_WRLCK, .l_whence = SEEK_SET};
-    char *path = joined(r->path, strlen(r->path), ".lock");
+    char *path = joined(r->path, ".lock");
     int file = open(path, O_RDWR | O_CREAT | O_CLOEXEC, 0666);
     if (file < 0)
         fail(path, strerror(errno));
@@ -65,8 +65,7 @@ static void load(register_file *r) {
     if (close(file) != 0)
         fail(r->name, strerror(errno));
     fv_outcome o = fv_check(r->image.at, r->image.length);
-    if (o.refusal != FV_ACCEPTED)
-        refuse(o.refusal, o.value);
+    expect_accepted(o.refusal, o.value);
 }
 
 void open_register(register_file *r, const char *name) {
@@ -110,8 +109,9 @@ static bool write_all(int file, const buffer *b) {
 }
 
 static char *folder_of(const char *path) {
-    const char *slash = strrchr(path, '/');
-    return slash == NULL ? joined(".", 1, "") : joined(path, (size_t)(slash - path) + 1, "");
+    char *folder = joined(path, ""), *slash = strrchr(folder, '/');
+    strcpy(slash == NULL ? folder : slash + 1, slash == NULL ? "." : "");
+    return folder;
 }
 
 static bool write_new(const register_file *r, const char *path) {
@@ -122,7 +122,7 @@ static bool write_new(const register_file *r, const char *path) {
 
 /* The folder is opened first, so that one that can't be is told before anything is changed. */
 void save_register(const register_file *r) {
-    char *made = joined(r->path, strlen(r->path), ".new"), *folder = folder_of(r->path);
+    char *made = joined(r->path, ".new"), *folder = folder_of(r->path);
     int opened = open(folder, O_RDONLY | O_DIRECTORY | O_CLOEXEC);
     if (opened < 0)
         fail(folder, strerror(errno));
@@ -136,9 +136,4 @@ void save_register(const register_file *r) {
         fail(folder, strerror(errno));
     free(made);
     free(folder);
-}
-
-void close_register(register_file *r) {
-    free(r->path);
-    free(r->image.at);
 }

@@ -4,8 +4,6 @@
  */
 #include "program.h"
 
-#include <inttypes.h>
-#include <stdio.h>
 #include <stdlib.h>
 #include <string.h>
 
@@ -72,15 +70,14 @@ static void end_cell(table *t, size_t length, bool wide) {
         pass_on(t);
         return;
     }
-    t->lengths = grown(t->lengths, &t->room, t->cells, sizeof *t->lengths);
-    t->lengths[t->cells - 1] = length;
+    append(&t->lengths, &length, sizeof length);
     if (wide && length > t->columns[place].width)
         t->columns[place].width = length;
 }
 
 /* The names are parted by blanks, and outlast the table. */
-void begin_table(table *t, const char *names, const options *o) {
-    *t = (table){.tsv = o->tsv, .held = !o->tsv};
+void begin_table(table *t, const char *names, bool tsv) {
+    *t = (table){.tsv = tsv, .held = !tsv};
     for (text rest = text_of(names); rest.length > 0; t->count++) {
         const uint8_t *blank = memchr(rest.at, ' ', rest.length);
         size_t length = blank == NULL ? rest.length : (size_t)(blank - rest.at);
@@ -103,31 +100,32 @@ void add_bytes(table *t, text cell) {
 
 /* A cell with the program's own words. */
 void add_words(table *t, const char *words) {
-    append(&t->bytes, words, strlen(words));
+    append_words(&t->bytes, words);
     end_cell(t, strlen(words), true);
 }
 
 void add_number(table *t, uint64_t number) {
-    char words[WORDS_ROOM];
-    snprintf(words, sizeof words, "%" PRIu64, number);
-    add_words(t, words);
+    size_t before = t->bytes.length;
+    append_number(&t->bytes, number);
+    end_cell(t, t->bytes.length - before, true);
 }
 
-void moved_words(char words[WORDS_ROOM], uint64_t widened, uint64_t shrunk) {
-    snprintf(words, WORDS_ROOM, "%s%" PRIu64, widened > 0 ? "+" : shrunk > 0 ? "-" : "", widened + shrunk);
+void append_moved(buffer *b, uint64_t widened, uint64_t shrunk) {
+    append_words(b, widened > 0 ? "+" : shrunk > 0 ? "-" : "");
+    append_number(b, widened + shrunk);
 }
 
 void add_moved(table *t, uint64_t widened, uint64_t shrunk) {
-    char words[WORDS_ROOM];
-    moved_words(words, widened, shrunk);
-    add_words(t, words);
+    size_t before = t->bytes.length;
+    append_moved(&t->bytes, widened, shrunk);
+    end_cell(t, t->bytes.length - before, true);
 }
 
 /* A refusal takes the rest of its row. */
 void add_refusal(table *t, uint64_t refusal, uint64_t value) {
     char words[WORDS_ROOM];
     refusal_words(words, refusal, value);
-    append(&t->bytes, words, strlen(words));
+    append_words(&t->bytes, words);
     end_cell(t, strlen(words), false);
     while (t->cells % t->count != 0) end_cell(t, absent, false);
 }
@@ -154,13 +152,15 @@ static void print_header(table *t, buffer *line) {
 
 static void print_aligned(table *t) {
     buffer line = {0};
+    text rest = bytes_of(&t->bytes);
     if (!t->headed)
         print_header(t, &line);
-    const uint8_t *at = t->bytes.at;
     for (size_t i = 0; i < t->cells; i++) {
-        if (t->lengths[i] != absent) {
-            append_cell(&line, &t->columns[i % t->count], (text){at, t->lengths[i]});
-            at += t->lengths[i];
+        size_t length;
+        memcpy(&length, t->lengths.at + i * sizeof length, sizeof length);
+        if (length != absent) {
+            append_cell(&line, &t->columns[i % t->count], (text){rest.at, length});
+            rest = (text){rest.at + length, rest.length - length};
         }
         if ((i + 1) % t->count == 0)
             print_line(&line);
@@ -175,12 +175,5 @@ void print_table(table *t) {
     else
         print_aligned(t);
     print_all();
-    t->bytes.length = 0;
-    t->cells = 0;
-}
-
-void end_table(table *t) {
-    print_table(t);
-    free(t->bytes.at);
-    free(t->lengths);
+    t->bytes.length = t->lengths.length = t->cells = 0;
 }

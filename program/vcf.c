@@ -1,6 +1,6 @@
 /*
- * The lines of a VCF file: each alternate of each line of the reference's sequence is formed, or entered into a register.
- * A refusal is an answer in its row. Rows are printed only after the save that holds them.
+ * The lines of a VCF file: each alternate of each line on the reference is formed, or entered into a register. A refusal
+ * is an answer in its row. Rows are printed only after the save that holds them.
  */
 #include "program.h"
 
@@ -16,31 +16,24 @@
 enum { CHROM, POS, ID, REF, ALT, COLUMNS };
 enum { BAR = 20, LINES_A_DRAWING = 1000 };
 
+typedef struct {
+    session *s;
+    bool entering;        /* or only forming */
+    bool changed;         /* since the last save */
+    buffer out;           /* a normal replacement */
+    buffer alternate;     /* in upper case */
+    buffer other;         /* the first other sequence's name */
+    uint64_t own, others; /* lines */
+    uint64_t formed, refused, answers[FV_KNOWN + 1];
+} calls;
+
 /* How far the file is read. */
 typedef struct {
     bool wanted;
     uint64_t size; /* 0 where it is not known */
-    uint64_t read;
-    uint64_t lines;
+    uint64_t read, lines;
     uint64_t drawn; /* the percentage, and one */
 } progress;
-
-typedef struct {
-    const options *o;
-    const reference *f;
-    register_file *r; /* null: alleles are formed and not entered */
-    table t;
-    progress p;
-    buffer out;       /* a normal replacement */
-    buffer alternate; /* in upper case */
-    buffer other;     /* the first other sequence's name */
-    uint64_t lines;
-    uint64_t others;
-    uint64_t refused;
-    uint64_t formed;
-    uint64_t answers[FV_KNOWN + 1];
-    bool changed; /* since the last save */
-} calls;
 
 static text before(text t, uint8_t byte) {
     const uint8_t *found = memchr(t.at, byte, t.length);
@@ -57,15 +50,15 @@ static text cut(text *t, uint8_t byte) {
 
 /* CHROM, POS, REF and an alternate, or all of ALT. */
 static void begin_row(calls *c, const text columns[COLUMNS], text alternate) {
-    add_bytes(&c->t, columns[CHROM]);
-    add_bytes(&c->t, columns[POS]);
-    add_bytes(&c->t, columns[REF]);
-    add_bytes(&c->t, alternate);
+    add_bytes(&c->s->t, columns[CHROM]);
+    add_bytes(&c->s->t, columns[POS]);
+    add_bytes(&c->s->t, columns[REF]);
+    add_bytes(&c->s->t, alternate);
 }
 
 static void refuse_row(calls *c, uint64_t refusal, uint64_t value) {
     c->refused++;
-    add_refusal(&c->t, refusal, value);
+    add_refusal(&c->s->t, refusal, value);
 }
 
 static void copy_upper_case(buffer *to, text from) {
@@ -76,7 +69,8 @@ static void copy_upper_case(buffer *to, text from) {
 }
 
 static fv_form form_alternate(calls *c, text line, uint64_t place) {
-    return fv_vcf_form(c->f->residues.at, c->f->residues.length, line.at, line.length, place, c->out.at, c->out.room, 0);
+    const buffer *residues = &c->s->f.residues;
+    return fv_vcf_form(residues->at, residues->length, line.at, line.length, place, c->out.at, c->out.room, 0);
 }
 
 /* Enters the allele of the line itself: the normal interval, moved back. */
@@ -84,14 +78,14 @@ static void enter_alternate(calls *c, const fv_form *form, text alternate) {
     copy_upper_case(&c->alternate, alternate);
     allele given = {form->start + form->left_widened - form->left_shrunk,
                     form->end - form->right_widened + form->right_shrunk, bytes_of(&c->alternate)};
-    fv_entered e = enter(c->r, c->f, &given);
+    fv_entered e = enter_allele(c->s, &given);
     if (e.refusal != FV_ACCEPTED) {
         refuse_row(c, e.refusal, e.value);
         return;
     }
     c->answers[e.answer]++;
     c->changed |= e.answer != FV_KNOWN;
-    add_entered(&c->t, c->r, c->f, &given, &e);
+    add_entered(c->s, &given, &e);
 }
 
 static void take_alternate(calls *c, text line, uint64_t place, text alternate) {
@@ -102,23 +96,24 @@ static void take_alternate(calls *c, text line, uint64_t place, text alternate) 
     }
     if (form.refusal != FV_ACCEPTED) {
         refuse_row(c, form.refusal, form.value);
-    } else if (c->r != NULL) {
+    } else if (c->entering) {
         enter_alternate(c, &form, alternate);
     } else {
         c->formed++;
-        add_form(&c->t, &form, c->out.at);
+        add_form(&c->s->t, &form, c->out.at);
     }
 }
 
-static void save_changes(calls *c) {
+static void save_and_print(calls *c) {
     if (c->changed)
-        save_register(c->r);
+        save_register(&c->s->r);
     c->changed = false;
+    print_table(&c->s->t);
 }
 
 static void take_own_line(calls *c, text line, const text columns[COLUMNS]) {
-    c->lines++;
-    fv_counted counted = fv_vcf_count(c->f->residues.at, c->f->residues.length, line.at, line.length);
+    c->own++;
+    fv_counted counted = fv_vcf_count(c->s->f.residues.at, c->s->f.residues.length, line.at, line.length);
     if (counted.refusal != FV_ACCEPTED) {
         begin_row(c, columns, columns[ALT]);
         refuse_row(c, counted.refusal, counted.value);
@@ -129,10 +124,8 @@ static void take_own_line(calls *c, text line, const text columns[COLUMNS]) {
         begin_row(c, columns, alternate);
         take_alternate(c, line, place, alternate);
     }
-    if (c->o->every > 0 && c->lines % c->o->every == 0) {
-        save_changes(c);
-        print_table(&c->t);
-    }
+    if (c->s->o.every > 0 && c->own % c->s->o.every == 0)
+        save_and_print(c);
 }
 
 static void take_line(calls *c, text line) {
@@ -140,7 +133,7 @@ static void take_line(calls *c, text line) {
     if (line.length == 0 || line.at[0] == '#')
         return;
     for (size_t i = 0; i < COLUMNS; i++) columns[i] = cut(&rest, '\t');
-    if (columns[CHROM].length == line.length || same(columns[CHROM], bytes_of(&c->f->name)))
+    if (columns[CHROM].length == line.length || same(columns[CHROM], bytes_of(&c->s->f.name)))
         take_own_line(c, line, columns);
     else if (c->others++ == 0)
         append_masked(&c->other, columns[CHROM]);
@@ -160,10 +153,10 @@ static void draw_progress(progress *p) {
     show_progress(words);
 }
 
-static FILE *open_calls(const options *o, const char *name, progress *p) {
+static FILE *open_calls(const char *path, const char *name, progress *p) {
     struct stat status;
-    bool standard = strcmp(o->vcf, "-") == 0;
-    int opened = standard ? STDIN_FILENO : open(o->vcf, O_RDONLY | O_CLOEXEC);
+    bool standard = strcmp(path, "-") == 0;
+    int opened = standard ? STDIN_FILENO : open(path, O_RDONLY | O_CLOEXEC);
     FILE *file = standard ? stdin : opened < 0 ? NULL : fdopen(opened, "r");
     if (file == NULL || fstat(opened, &status) != 0)
         fail(name, strerror(errno));
@@ -179,66 +172,62 @@ static text line_of(const char *bytes, size_t length) {
     return (text){(const uint8_t *)bytes, length};
 }
 
-static void take_lines(calls *c, FILE *file, const char *name) {
+static void take_lines(calls *c, progress *p, FILE *file, const char *name) {
     char *bytes = NULL;
     size_t room = 0;
     ssize_t length;
     while ((length = getline(&bytes, &room, file)) >= 0) {
-        if (c->p.lines++ == 0 && length > 1 && memcmp(bytes, "\x1f\x8b", 2) == 0)
+        if (p->lines++ == 0 && length > 1 && memcmp(bytes, "\x1f\x8b", 2) == 0)
             fail(name, "compressed, unpack it first");
         take_line(c, line_of(bytes, (size_t)length));
-        c->p.read += (uint64_t)length;
-        draw_progress(&c->p);
+        p->read += (uint64_t)length;
+        draw_progress(p);
     }
-    if (!feof(file))
+    if (!feof(file) || fclose(file) != 0)
         fail(name, strerror(errno));
     free(bytes);
 }
 
-static void append_number(buffer *b, uint64_t number, const char *words) {
-    char digits[WORDS_ROOM];
-    snprintf(digits, sizeof digits, "%" PRIu64, number);
-    append(b, digits, strlen(digits));
-    append(b, words, strlen(words));
+static void append_count(buffer *b, uint64_t number, const char *words) {
+    append_number(b, number);
+    append_words(b, words);
 }
 
 static void say_counts(const calls *c, const char *name) {
     buffer line = {0};
-    append_number(&line, c->lines, " lines of ");
-    append_masked(&line, bytes_of(&c->f->name));
-    append(&line, ": ", 2);
-    if (c->r == NULL)
-        append_number(&line, c->formed, " formed, ");
-    else {
-        append_number(&line, c->answers[FV_NEW], " new, ");
-        append_number(&line, c->answers[FV_AGAIN], " again, ");
-        append_number(&line, c->answers[FV_KNOWN], " known, ");
+    append_count(&line, c->own, " lines of ");
+    append_masked(&line, bytes_of(&c->s->f.name));
+    append_words(&line, ": ");
+    if (c->entering) {
+        append_count(&line, c->answers[FV_NEW], " new, ");
+        append_count(&line, c->answers[FV_AGAIN], " again, ");
+        append_count(&line, c->answers[FV_KNOWN], " known, ");
+    } else {
+        append_count(&line, c->formed, " formed, ");
     }
-    append_number(&line, c->refused, " refused");
-    if (c->others > 0) {
-        append(&line, "; ", 2);
-        append_number(&line, c->others, " of other sequences, the first of ");
-        append(&line, c->other.at, c->other.length);
-    }
+    append_count(&line, c->refused, c->others > 0 ? " refused; " : " refused");
+    if (c->others > 0)
+        append_count(&line, c->others, " of other sequences, the first of ");
+    append(&line, c->other.at, c->other.length);
     append(&line, "", 1);
     say("%s: %s", name, (const char *)line.at);
     free(line.at);
 }
 
-int take_calls(const options *o, const reference *f, register_file *r) {
-    calls c = {.o = o, .f = f, .r = r};
-    const char *name = strcmp(o->vcf, "-") == 0 ? "standard input" : o->vcf;
-    FILE *file = open_calls(o, name, &c.p);
-    begin_table(&c.t, r == NULL ? "CHROM POS REF ALT kind start end replacement left right"
-                                : "CHROM POS REF ALT answer number start end replacement left right identifier", o);
-    c.t.held |= r != NULL;
+int take_calls(session *s, bool entering) {
+    static const char formed[] = "CHROM POS REF ALT kind start end replacement left right";
+    static const char entered[] = "CHROM POS REF ALT answer number start end replacement left right identifier";
+    const char *name = strcmp(s->o.vcf, "-") == 0 ? "standard input" : s->o.vcf;
+    calls c = {.s = s, .entering = entering};
+    progress p = {0};
+    FILE *file = open_calls(s->o.vcf, name, &p);
+    begin_table(&s->t, entering ? entered : formed, s->o.tsv);
+    s->t.held |= entering;
     reserve(&c.out, 0);
-    take_lines(&c, file, name);
-    save_changes(&c);
-    end_table(&c.t);
+    reserve(&c.other, 0);
+    take_lines(&c, &p, file, name);
+    save_and_print(&c);
     say_counts(&c, name);
-    if (fclose(file) != 0)
-        fail(name, strerror(errno));
     free(c.out.at);
     free(c.alternate.at);
     free(c.other.at);

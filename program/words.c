@@ -80,6 +80,11 @@ void refuse(uint64_t refusal, uint64_t value) {
     exit(1);
 }
 
+void expect_accepted(uint64_t refusal, uint64_t value) {
+    if (refusal != FV_ACCEPTED)
+        refuse(refusal, value);
+}
+
 void print_bytes(const void *bytes, size_t length) {
     wipe_progress();
     if (length > 0 && fwrite(bytes, 1, length, stdout) != length)
@@ -91,28 +96,32 @@ void print_all(void) {
         fail("standard output", strerror(errno));
 }
 
-/* An array with room for so many of a size, at least twice as many as before where it has to grow. */
-void *grown(void *at, size_t *room, size_t needed, size_t size) {
-    if (at != NULL && needed <= *room)
-        return at;
-    size_t least = 2 * *room > 64 ? 2 * *room : 64;
-    *room = needed > least ? needed : least;
-    void *made = *room <= SIZE_MAX / size ? realloc(at, *room * size) : NULL;
-    if (made == NULL)
-        fail("memory", strerror(ENOMEM));
-    return made;
-}
-
+/* Room for so many more bytes; where it has to grow it doubles. */
 void reserve(buffer *b, size_t more) {
-    if (more > SIZE_MAX - b->length)
+    size_t needed = b->length + more, doubled = 2 * b->room > 64 ? 2 * b->room : 64;
+    if (b->at != NULL && needed <= b->room)
+        return;
+    b->room = needed > doubled ? needed : doubled;
+    uint8_t *at = needed < more ? NULL : realloc(b->at, b->room);
+    if (at == NULL)
         fail("memory", strerror(ENOMEM));
-    b->at = grown(b->at, &b->room, b->length + more, 1);
+    b->at = at;
 }
 
 void append(buffer *b, const void *bytes, size_t length) {
     reserve(b, length);
     memcpy(b->at + b->length, bytes, length);
     b->length += length;
+}
+
+void append_words(buffer *b, const char *words) {
+    append(b, words, strlen(words));
+}
+
+void append_number(buffer *b, uint64_t number) {
+    char digits[WORDS_ROOM];
+    snprintf(digits, sizeof digits, "%" PRIu64, number);
+    append_words(b, digits);
 }
 
 void append_blanks(buffer *b, size_t count) {
