@@ -9,7 +9,10 @@
 #include <stdlib.h>
 #include <string.h>
 
-/* Columns, but for how many positions around a point are shown: from FAR down to NEAR. */
+/*
+ * Columns, but for how many positions around a point are shown, from FAR down to NEAR, and how many hidden ones are
+ * bridged. With NEAR no picture is wider than 75, so that a row has room for a number that begins there.
+ */
 enum { POINTS = 4, FAR = 10, NEAR = 3, BRIDGED = 2, LABEL = 11, DOTS = 4, GAP = 5, WIDEST = 64, ROW = 128 };
 
 typedef struct {

@@ -61,11 +61,11 @@ typedef struct {
     text name;
     size_t width;
     bool right, elided;
-} column;
+} table_column;
 typedef struct {
     bool tsv, headed;
     bool held; /* until it is printed; else, with tabs, pieces go out as they are full */
-    column columns[MOST_COLUMNS];
+    table_column columns[MOST_COLUMNS];
     size_t count, cells;
     buffer bytes;   /* of the cells; with tabs, the lines as they are printed */
     buffer lengths; /* of the cells, a size_t each */

@@ -17,11 +17,11 @@ static bool among(text name, const char *const *names) {
     return *names != NULL;
 }
 
-static column column_of(text name) {
+static table_column column_of(text name) {
     static const char *const right[] = {"POS", "records", "journal", "pool", "residues", "numbers", "active",
                                         "number", "start", "end", "left", "right", NULL};
     static const char *const elided[] = {"REF", "ALT", "replacement", NULL};
-    return (column){name, name.length, among(name, right), among(name, elided)};
+    return (table_column){name, name.length, among(name, right), among(name, elided)};
 }
 
 /* Bytes of a file or of a sequence: those that do not show are masked, and where there are none a full stop stands. */
@@ -130,7 +130,7 @@ void add_refusal(table *t, uint64_t refusal, uint64_t value) {
     while (t->cells % t->count != 0) end_cell(t, absent, false);
 }
 
-static void append_cell(buffer *line, const column *c, text cell) {
+static void append_cell(buffer *line, const table_column *c, text cell) {
     size_t blanks = c->width > cell.length ? c->width - cell.length : 0;
     append_blanks(line, (line->length > 0 ? 2 : 0) + (c->right ? blanks : 0));
     append(line, cell.at, cell.length);
