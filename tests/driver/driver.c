@@ -150,6 +150,14 @@ static int make_register(char code, const uint64_t *n, const slice *s, uint64_t 
     }
     case 'S':
         return outcome(fv_seal(LENT(s[0])), a);
+    case 'C':
+        return outcome(fv_check(LENT(s[0])), a);
+    case 'N': {
+        fv_record r = fv_read_record(LENT(s[0]), n[0]);
+        a[0] = r.refusal, a[1] = r.value, a[2] = r.start, a[3] = r.end, a[4] = r.status;
+        a[5] = r.offset, a[6] = r.length;
+        return 7;
+    }
     }
     stop("no such call of the register");
 }
@@ -214,6 +222,8 @@ static const call calls[] = {
     {'w', 1, "w", make_register},        /* fv_withdraw: number; image */
     {'u', 0, "w", make_register},        /* fv_undo: image */
     {'S', 0, "w", make_register},        /* fv_seal: image */
+    {'C', 0, "r", make_register},        /* fv_check: image */
+    {'N', 1, "r", make_register},        /* fv_read_record: number; image */
     {'B', 0, "w", make_running},         /* fv_running_begin: state */
     {'f', 0, "wr", make_running},        /* fv_running_feed: state, part */
     {'F', 1, "rw", make_running},        /* fv_running_finish: place; state, out */

@@ -4,6 +4,7 @@ from itertools import product
 import model
 import register
 from arguments import FAR_POSITIONS, some_extreme, with_byte
+from readings import read_back
 from register_calls import blank
 from text_cases import digests, some_digest, spoiled_digest
 
@@ -50,7 +51,7 @@ def at_the_limits(rng):
     yield blank(image[:-1], model.REFERENCE_LIMIT, some_digest(rng), *LIMITS)
 
 
-def blank_cases(rng):
+def made_blank(rng):
     for capacities in ((0, 0, 0), (2, 3, 15), (1, 0, 0), (0, 1, 0), (0, 0, 1), (5, 0, 30), (300, 400, 500)):
         yield from every_room(rng, *capacities)
     yield from every_capacity(rng)
@@ -68,3 +69,7 @@ def blank_cases(rng):
         digest = rng.choice((some_digest, some_digest, some_digest, spoiled_digest))(rng)
         yield blank(rng.randbytes(room), rng.randint(0, 10**rng.randint(0, 10)), digest, *capacities)
     yield from at_the_limits(rng)
+
+
+def blank_cases(rng):
+    return read_back(rng, made_blank(rng))

@@ -4,6 +4,8 @@ from itertools import chain, product
 import images
 from arguments import with_byte
 from images import image_of, with_number
+from readings import at_the_edge, every_reading, some_reading
+from register_calls import check
 from register_cases import CALLS, DIGEST, REPEAT, every_call, some_registers
 
 
@@ -46,8 +48,18 @@ def nudged(rng):
         yield images.nudged(rng, images.from_elsewhere(rng, REPEAT, DIGEST))
 
 
+def read_to_the_end(rng):
+    """Readings of every beginning of an image, and of all of it, with nothing behind."""
+    for register in some_registers():
+        for image in images.cut(image_of(rng, register)):
+            yield from map(at_the_edge, every_reading(image))
+
+
 def damage_cases(rng):
     for image in damaged_images(rng):
         yield from every_call(image)
+        yield some_reading(rng, image)
     for image in chain(every_byte(rng), damaged_twice(rng), nudged(rng)):
         yield rng.choice(CALLS)(image)
+        yield check(image)
+    yield from read_to_the_end(rng)

@@ -14,6 +14,7 @@ from form_cases import normal_form_cases
 from full_cases import full_cases
 from history_cases import history_cases
 from read_cases import read_allele_cases, read_location_cases
+from register import STATUS
 from register_cases import register_cases
 from running_cases import running_cases
 from sequence_cases import sequence_identifier_cases
@@ -24,8 +25,10 @@ from vcf_molecules import vcf_molecule_cases
 
 # Every entry in every shape.
 ENTERED = {f"{found} {shape}" for found in ("new", "again", "known") for shape in SHAPES}
-# seed, cases, and for each call the outcomes that they have to meet: accepted, in its shapes where it has them, and
-# refusals by number
+# A record in every status, with letters and without.
+READ = {f"{status}{letters}" for status in STATUS for letters in ("", " empty")}
+# seed, cases, and for each call the outcomes that they have to meet: accepted, in its shapes or statuses where it has
+# them, and refusals by number
 SUITES = (
     (40, full_cases, {
         "fv_sequence_identifier": {"accepted", 4},
@@ -35,6 +38,8 @@ SUITES = (
         "fv_allele_identifier": {"widened-widened"},
         "fv_read_allele": {"accepted", 8},
         "fv_entry": {14},
+        "fv_check": {"accepted"},
+        "fv_read_record": {16},
         "fv_vcf_form": {"kept-kept", 6, 20},
     }),
     (41, sequence_identifier_cases, {"fv_sequence_identifier": {"accepted", 1, 4, 6}}),
@@ -51,12 +56,18 @@ SUITES = (
     (47, allele_identifier_cases, {"fv_allele_identifier": {*SHAPES, 1, 2, 3, 4, 5, 6, 7}}),
     (48, read_location_cases, {"fv_read_location": {"accepted", 8}}),
     (49, read_allele_cases, {"fv_read_allele": {"accepted", 8}}),
-    (50, blank_cases, {"fv_blank": {"accepted", 1, 7, 9}}),
+    (50, blank_cases, {
+        "fv_blank": {"accepted", 1, 7, 9},
+        "fv_check": {"accepted", 10},
+        "fv_read_record": {10, 16},
+    }),
     (51, register_cases, {
         "fv_entry": {*ENTERED, 1, 2, 3, 4, 5, 10, 11, 12, 13, 14, 15},
         "fv_withdraw": {"accepted", 15, 16, 17},
         "fv_undo": {"accepted", 18},
         "fv_seal": {"accepted", 10},
+        "fv_check": {"accepted", 10},
+        "fv_read_record": {*READ, 10, 16},
     }),
     (52, history_cases, {
         "fv_blank": {"accepted"},
@@ -64,12 +75,16 @@ SUITES = (
         "fv_withdraw": {"accepted", 15, 16, 17},
         "fv_undo": {"accepted", 18},
         "fv_seal": {"accepted"},
+        "fv_check": {"accepted"},
+        "fv_read_record": {*READ, 16},
     }),
     (53, damage_cases, {
         "fv_entry": {"new widened-widened", "again widened-widened", "known widened-widened", 10, 11, 13, 14, 15},
         "fv_withdraw": {"accepted", 10, 15, 16, 17},
         "fv_undo": {"accepted", 10, 18},
         "fv_seal": {"accepted", 10},
+        "fv_check": {"accepted", 10},
+        "fv_read_record": {*READ, 10, 16},
     }),
     (54, vcf_cases, {"fv_vcf_count": {"accepted", 1, 19, 20}, "fv_vcf_form": {*SHAPES, 1, 6, 19, 20, 21}}),
     (55, vcf_molecule_cases, {"fv_vcf_count": {"accepted"}, "fv_vcf_form": SHAPES}),

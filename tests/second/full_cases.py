@@ -9,6 +9,7 @@ import model
 import texts
 from exchange import Case, Repeated
 from images import image_of
+from readings import every_reading
 from register import Register
 from register_calls import entry_as
 from text_cases import ALLELE_IDENTIFIER, ALLELE_TEXT, some_digest
@@ -82,7 +83,9 @@ def entries(rng):
     """Into a pool without room for it."""
     digest = some_digest(rng)
     form = model.Form(model.INDEL, 0, LIMIT, Repeated(b"A", RESIDUES_LIMIT))
-    yield entry_as(image_of(rng, Register(1, 1, 100, LIMIT, digest)), digest, *INSERTION, form)
+    image = image_of(rng, Register(1, 1, 100, LIMIT, digest))
+    yield entry_as(image, digest, *INSERTION, form)
+    yield from every_reading(image)
 
 
 def vcf_forms(rng):

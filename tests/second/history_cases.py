@@ -4,6 +4,7 @@ import model
 from arguments import marred, with_byte
 from exchange import Untouched
 from images import ISSUED_AT, from_elsewhere, image_of, number_at, small_allele, small_reference
+from readings import read_back
 from register import Register
 from register_calls import after, blank, entry, seal, undo, withdraw
 from text_cases import some_digest, spoiled_digest
@@ -93,6 +94,6 @@ def every_small_entered(rng, longest):
 
 
 def history_cases(rng):
-    yield from every_small_entered(rng, 5)
+    yield from read_back(rng, every_small_entered(rng, 5))
     for _ in range(5000):
-        yield from history(rng)
+        yield from read_back(rng, history(rng))

@@ -5,8 +5,9 @@ import model
 from arguments import with_byte
 from exchange import Untouched
 from images import POOL_CAPACITY_AT, image_of, record_at, with_number
+from readings import every_reading
 from register import ACTIVE, COUNT_LIMIT, POOL_LIMIT, Record, Register
-from register_calls import after, entry, entry_as, seal, undo, withdraw
+from register_calls import after, check, entry, entry_as, read_record, seal, undo, withdraw
 
 DIGEST = model.digest(b"")
 
@@ -20,6 +21,8 @@ def limits_of_the_header(rng):
             image = image_of(rng, register)
             yield seal(image)
             yield entry(image, DIGEST, b"", 0, 0, b"")
+            yield check(image)
+            yield read_record(image, 0)
 
 
 def longest_reference(rng):
@@ -32,6 +35,10 @@ def longest_reference(rng):
         intervals += [(5 + 2**power, 7 + 2**power), (5, 7 + 2**power)]
     issued = tuple(Record(start, end, b"CAG", number % 2) for number, (start, end) in enumerate(intervals))
     images = [image_of(rng, Register(20, 9, 60, n, DIGEST, some)) for some in (issued, issued[::-1], issued[:3], ())]
+    for image in images:
+        yield check(image)
+        for number in range(len(issued) + 2):
+            yield read_record(image, number)
     yield entry(images[0], DIGEST, Untouched(n + 1), 5, 5, b"CAG")
     yield entry(images[0], DIGEST, Untouched(n - 1), 5, 5, b"CAG")
     for image, (start, end) in product(images, intervals):
@@ -68,6 +75,8 @@ def many_records(rng):
     yield undo(after(last))
     yield undo(image)
     yield seal(image)
+    yield from every_reading(image)
+    yield from every_reading(after(last))
     yield enter(image_of(rng, full._replace(issued=issued[:-1], journalled=())), count)
     yield enter(with_number(image, record_at(count) + 16, 2), 1)
 
@@ -82,7 +91,12 @@ def large_pool(rng):
     yield entry(image, DIGEST, reference, 9, 9, longest)
     yield entry(image, DIGEST, reference, 0, 11, b"")
     yield entry(image, DIGEST, reference, 11, 11, b"A")
-    yield seal(with_byte(image, len(image) - 1, 0x61))
+    for number in (1, 2, 10, 11):
+        yield read_record(image, number)
+    for damaged in (with_byte(image, len(image) - 1, 0x61), image[:-1]):
+        yield seal(damaged)
+        yield check(damaged)
+        yield read_record(damaged, 1)
     short = issued[:-1] + (issued[-1]._replace(replacement=longest[1:]),)
     yield entry(image_of(rng, register._replace(issued=short)), DIGEST, reference, 11, 11, b"A")
     room = image_of(rng, register._replace(issued=issued[:-1]))
@@ -100,6 +114,7 @@ def long_replacement(rng):
     yield entry(after(new), DIGEST, run, 9, 10, b"AA")
     yield withdraw(after(new), 1)
     yield undo(after(new))
+    yield from every_reading(after(new))
 
 
 def large_cases(rng):

@@ -1,4 +1,4 @@
-"""A call to the register with its expected answer, for each of the five."""
+"""A call to the register with its expected answer, for each of the seven."""
 import register
 from exchange import Case
 from shapes import shape
@@ -40,6 +40,17 @@ def undo(image):
 def seal(image):
     *answer, after = register.seal(image)
     return Case("fv_seal", b"S", (), (image,), tuple(answer), (after,))
+
+
+def check(image):
+    return Case("fv_check", b"C", (), (image,), register.check(image), ())
+
+
+def read_record(image, number):
+    answer = register.read_record(image, number)
+    *_, status, _, length = answer
+    counted_as = f"{register.STATUS[status]}{'' if length else ' empty'}"
+    return Case("fv_read_record", b"N", (number,), (image,), answer, (), counted_as)
 
 
 def after(case):

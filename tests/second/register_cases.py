@@ -10,8 +10,9 @@ from arguments import FAR_POSITIONS, every_foreign, every_interval, extreme, som
 from exchange import Untouched
 from images import image_of
 from large_cases import large_cases
+from readings import read_back
 from register import ACTIVE, INACTIVE, Record, Register
-from register_calls import after, entry, seal, undo, withdraw
+from register_calls import after, check, entry, read_record, seal, undo, withdraw
 from text_cases import some_digest
 
 REPEAT = b"TCAGCAGCAGT"
@@ -40,7 +41,11 @@ def withdraw_first(image):
     return withdraw(image, 1)
 
 
-CALLS = enter_insertion, withdraw_first, undo, seal
+def read_first(image):
+    return read_record(image, 1)
+
+
+CALLS = enter_insertion, withdraw_first, undo, seal, check, read_first
 
 
 def every_call(image):
@@ -152,13 +157,14 @@ def orders(rng):
             yield entry(image, digest, reference, start, end, replacement)
 
 
-def withdrawal_numbers(rng):
+def numbers_given(rng):
+    """Numbers that are issued, beside them and far, withdrawn and read."""
     for register in some_registers():
         image = image_of(rng, register)
-        for number in (*range(6), *FAR_POSITIONS, 2**32 + 2, 2**32 + 3, 2**64 - 2**32 + 1):
+        extremes = (extreme(rng) for _ in range(500))
+        for number in (*range(6), *FAR_POSITIONS, 2**32 + 2, 2**32 + 3, 2**64 - 2**32 + 1, *extremes):
             yield withdraw(image, number)
-        for _ in range(500):
-            yield withdraw(image, extreme(rng))
+            yield read_record(image, number)
 
 
 def entered_positions(rng):
@@ -173,5 +179,6 @@ def entered_positions(rng):
 
 def register_cases(rng):
     for cases in (held_more_than_once, every_way, moved_far, beside_the_form, not_in_normal_form, any_room, orders,
-                  withdrawal_numbers, entered_positions, large_cases):
-        yield from cases(rng)
+                  numbers_given, entered_positions):
+        yield from read_back(rng, cases(rng))
+    yield from large_cases(rng)
