@@ -1,8 +1,8 @@
 """Times the program on the files of made_files.py, and other ways through the same files, and prints lines of the
 table, then how many VCF lines each takes in a second.
 
-usage: files.py FOLDER BCFTOOLS WORD...    (the folder has the two files and the programs fearnavult and files; BCFTOOLS
-is the name of that program, or empty; the words start a program of the folder)
+usage: files.py FOLDER BCFTOOLS [WORD...]    (the folder has the two files and the programs fearnavult and files;
+BCFTOOLS is the name of that program, or empty; the words, where there are any, start a program of the folder)
 
 Times are the processor's, the system's work for a program included, the best of ten turns.
 """
