@@ -9,6 +9,7 @@ Times are the processor's, the system's work for a program included, the best of
 import resource
 import subprocess
 import sys
+from functools import partial
 from pathlib import Path
 
 TURNS = 10
@@ -25,25 +26,28 @@ def seconds(command, output):
     return after.ru_utime + after.ru_stime - before.ru_utime - before.ru_stime
 
 
-def best(commands, output):
+def said(command):
+    """The seconds of a command that prints its nanoseconds."""
+    return float(subprocess.run(command, stdout=subprocess.PIPE, check=True).stdout) / 1e9
+
+
+def best(timers):
     """The least time of each, all of them once in each turn."""
-    turns = [[seconds(command, output) for command in commands.values()] for _ in range(TURNS)]
-    return dict(zip(commands, map(min, zip(*turns))))
+    turns = [[timer() for timer in timers.values()] for _ in range(TURNS)]
+    return dict(zip(timers, map(min, zip(*turns))))
 
 
 def measured(folder, bcftools, starts):
     """The seconds that each way takes, by its name in the table."""
-    files = str(folder / "ref.fa"), str(folder / "calls.vcf")
-    reference, calls = files
-    plain = [*starts, str(folder / "files")]
-    commands = {OURS: [*starts, str(folder / "fearnavult"), "form", "-r", reference, "--vcf", calls, "--tsv"],
-                PLAIN: [*plain, "columns", *files]}
+    reference, calls, rows = (str(folder / name) for name in ("ref.fa", "calls.vcf", "rows"))
+    ours = [*starts, str(folder / "fearnavult"), "form", "-r", reference, "--vcf", calls, "--tsv"]
+    columns, forms = ([*starts, str(folder / "files"), way, reference, calls] for way in ("columns", "forms"))
+    timers = {OURS: partial(seconds, ours, rows), PLAIN: partial(seconds, columns, rows),
+              IN_MEMORY: partial(said, forms)}
     if bcftools:
-        commands[NORM] = [bcftools, "norm", "-f", *files]
-        seconds(commands[NORM], folder / "rows")  # the first time it writes an index of the reference beside it
-    times = best(commands, folder / "rows")
-    nanoseconds = subprocess.run([*plain, "forms", *files], stdout=subprocess.PIPE, check=True).stdout
-    return {**times, IN_MEMORY: float(nanoseconds) / 1e9}
+        timers[NORM] = partial(seconds, [bcftools, "norm", "-f", reference, calls], rows)
+        timers[NORM]()  # the first time it writes an index of the reference beside it
+    return best(timers)
 
 
 def main(folder, bcftools, *starts):
