@@ -50,8 +50,8 @@ def absolute(starting):
 class Folder:
     """A folder that is removed at the end, with these files in it."""
 
-    def __init__(self, files):
-        self.path = Path(tempfile.mkdtemp(prefix="fearnavult-")).resolve()
+    def __init__(self, files, place=None):
+        self.path = Path(tempfile.mkdtemp(prefix="fearnavult-", dir=place)).resolve()
         for name, text in files.items():
             self.put(name, text)
 
@@ -59,6 +59,9 @@ class Folder:
         return self
 
     def __exit__(self, *_):
+        self.remove()
+
+    def remove(self):
         shutil.rmtree(self.path)
 
     def at(self, name):
