@@ -39,6 +39,7 @@ class Work(NamedTuple):
     files: dict
     images: dict
 
+
 def data_lines(reference):
     """So many lines that no two of them make the same sequence: at each place another letter, or some more."""
     step = len(reference) // LINES
