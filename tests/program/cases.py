@@ -90,6 +90,8 @@ FORMS = """
     form -r foreign.fa 8 10 -
     form -r foreign.fa 8 8 A
     form -r foreign.fa 0 11 A
+    form -r bytes.fa 0 0 .
+    form -r bytes.fa 0 7 A
     form -r empty.fa 0 0 ACGT [--tsv]
     form -r empty.fa 0 0 . [--tsv]
     form -r empty.fa 0 1 . [--tsv]
@@ -104,7 +106,8 @@ FORMS = """
 
 
 def forms():
-    files = {b"cag.fa": CAG, b"foreign.fa": b">x\nAAccNNxx--T\n", b"empty.fa": b">e\n"}
+    files = {b"cag.fa": CAG, b"foreign.fa": b">x\nAAccNNxx--T\n", b"empty.fa": b">e\n",
+             b"bytes.fa": b">x\n \x20\x21\x7e\x7f\x80\xff\0\x1fAC\n"}
     odd = [[*words("form -r cag.fa 4 4"), replacement] for replacement in (b"C\xffG", b"A B", b"A\n", b"")]
     yield Scenario("forms and identifiers", files, script(FORMS) + odd)
 

@@ -13,6 +13,7 @@ from drawings import drawing_scenarios
 from failures import failures
 from helps import helps
 from histories import history_scenarios
+from oversized import oversized
 from refusals import CHOSEN
 from file_shapes import file_scenarios
 from terminal import terminal
@@ -95,9 +96,9 @@ def main(starting):
     for scenarios in (plain_scenarios, file_scenarios, drawing_scenarios, history_scenarios):
         count += sum(played(starting, scenario, met) for scenario in scenarios())
     check(met)
-    special = sum(tests(starting) for tests in (failures, helps, terminal))
+    special = sum(tests(starting) for tests in (failures, helps, terminal, oversized))
     print(f"commands: ok, {count} commands answered as the second program says, byte for byte; {special} more where "
-          "the system says no, where help is asked for and on a terminal")
+          "the system says no, where help is asked for, on a terminal and on too long a reference")
 
 
 if __name__ == "__main__":

@@ -82,11 +82,16 @@ def many_references(rng):
 
 
 def long_reference(rng):
-    """Numbers of many digits, and edges far apart; the alleles are entered and shown too."""
-    reference = alleles.residues(rng, 40_000) + b"CAG" * 7000 + alleles.residues(rng, 38_990) + b"A" * 10
-    given = [(50_000, 50_000, b"CAG"), (40_000, 61_000, b""), (99_990, 99_995, b""), (100_000, 100_000, b"AA"),
-             (0, 0, b"G"), (0, 100_000, b""), (12_345, 12_346, b"N"), (9_998, 10_003, b"NN"), (99_999, 100_000, b"C")]
+    """Numbers of many digits, and edges far apart; the alleles are entered and shown too. The last have a number at
+    every place of a run, also where it would touch the next run."""
+    reference = alleles.residues(rng, 40_000) + b"CAG" * 7000 + alleles.residues(rng, 1_000_000) + b"A" * 10
+    n = len(reference)
+    given = [(50_000, 50_000, b"CAG"), (40_000, 61_000, b""), (n - 10, n - 5, b""), (n, n, b"AA"), (0, 0, b"G"),
+             (0, n, b""), (12_345, 12_346, b"N"), (9_998, 10_003, b"NN"), (n - 1, n, b"C"), (0, 99_999, b"N")]
     given += [allele for allele in (shrinking(rng, reference) for _ in range(25)) if len(allele[2]) < LONGEST_WORD]
+    given += [(start + i, 1_000_000 + 3 * i, b"W") for start in (2000, 90_000, 123_450) for i in range(5)]
+    given += [(70_000, 1_000_000 + i, reference[70_000:80_000] + b"W" + reference[900_000:1_000_000 + i][-9000:])
+              for i in range(5)]
     commands = [words("blank r.fv -r long.fa --pool 3000000")]
     commands += [allele_words("form -r long.fa --name chr9", *allele) for allele in given]
     commands += [allele_words("enter r.fv -r long.fa", *allele) for allele in given[:12]]

@@ -6,6 +6,7 @@ import os
 import resource
 import subprocess
 from functools import partial
+from itertools import product
 from pathlib import Path
 
 import program
@@ -42,6 +43,17 @@ def why(number):
 
 def small_files():
     resource.setrlimit(resource.RLIMIT_FSIZE, (100, 100))
+
+
+def folders_in_the_way(starting):
+    """A folder where the lock or the new image is to be."""
+    for command, ending in product(CHANGES, (b".lock", b".new")):
+        files = FILES | {b"r.fv.lock": b"", b"r.fv" + ending: program.FOLDER}
+        with Folder(files) as folder:
+            said = b"fearnavult: r.fv" + ending + b": " + why(errno.EISDIR) + b"\n"
+            same(command, "with a folder in the way", run(starting, folder, command), Left(2, b"", said))
+            compare_files(command, folder.files(), files)
+    return 2 * len(CHANGES)
 
 
 def close_standard_output():
@@ -179,5 +191,5 @@ def pipes(starting):
 def failures(starting):
     if not Path("/proc/version").exists():
         raise SystemExit("commands: FAILED: there is no /proc, where nobody can write")
-    return sum(tests(starting) for tests in (full_disk, standard_output_full, standard_output_closed, nobody_can_write,
-                                             links, modes, pipes))
+    return sum(tests(starting) for tests in (full_disk, folders_in_the_way, standard_output_full,
+                                             standard_output_closed, nobody_can_write, links, modes, pipes))

@@ -164,6 +164,7 @@ CHR1\t4\t.\tG\tA
 chr1\t4\t.\tG\tA\0
 chr1\t4\0\t.\tG\tA
 chr1\t4\t.\tG\tA\x01\xff,\xe9
+chr1\t\x1f\x21\x7e\x7f\t.\t\x20\x21\x7e\t\x7f\x80,~!
 chr1\0\t4\t.\tG\tA
 chr1\t4\t\xff\0\tG\tA\r
 chr1\t4\t.\tG\r\tA

@@ -2,6 +2,7 @@
 another did.
 """
 import subprocess
+import threading
 
 import program
 import register
@@ -37,7 +38,10 @@ def begin_and_hold(starting, folder):
                                stderr=subprocess.PIPE)
     process.stdin.write(FIRST)
     process.stdin.flush()
+    patience = threading.Timer(PATIENCE, process.kill)
+    patience.start()
     out = process.stdout.readline() + process.stdout.readline()
+    patience.cancel()
     return process, out
 
 
