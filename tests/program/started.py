@@ -16,6 +16,8 @@ from command_line import COMMANDS, asked  # noqa: E402
 # Long enough for an emulator on a slow machine.
 PATIENCE = 120
 BOTH = "[--tsv]"
+# Nothing here hangs on a disk, and without one a save is much quicker.
+MEMORY = "/dev/shm" if os.access("/dev/shm", os.W_OK) else None
 
 
 class Disagreement(Exception):
@@ -50,8 +52,8 @@ def absolute(starting):
 class Folder:
     """A folder that is removed at the end, with these files in it."""
 
-    def __init__(self, files, place=None):
-        self.path = Path(tempfile.mkdtemp(prefix="fearnavult-", dir=place)).resolve()
+    def __init__(self, files):
+        self.path = Path(tempfile.mkdtemp(prefix="fearnavult-", dir=MEMORY)).resolve()
         for name, text in files.items():
             self.put(name, text)
 

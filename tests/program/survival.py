@@ -3,7 +3,6 @@ one of the images that the second program works out, and nothing that was printe
 
 usage: survival.py WORD...      (the words that start the program)
 """
-import os
 import random
 import signal
 import subprocess
@@ -27,8 +26,6 @@ SAVES = LINES // EVERY
 EARLY, ANYWHERE, SAVING = 30, 50, 120
 KILLS = EARLY + ANYWHERE + SAVING
 FEWEST_BETWEEN = 50
-# What a killed process leaves does not hang on the disk, and without one a run is much quicker.
-MEMORY = "/dev/shm" if os.access("/dev/shm", os.W_OK) else None
 COMMAND = words(f"enter r.fv -r ref.fa --vcf calls.vcf --tsv --every {EVERY}")
 OUT = "printed"
 
@@ -81,7 +78,7 @@ def begin(starting, folder):
 
 def full_run(starting, task):
     """How long it takes until something is saved, and until the end."""
-    with Folder(task.files, MEMORY) as folder:
+    with Folder(task.files) as folder:
         before = time.perf_counter()
         process = begin(starting, folder)
         while saves_in(folder, task.images) == 0 and process.poll() is None:
@@ -151,11 +148,11 @@ def kills(starting, task):
     rng = random.Random(82)
     met = Counter()
     first, whole = full_run(starting, task)
-    folder = Folder(task.files, MEMORY)
+    folder = Folder(task.files)
     for moment in moments(rng, first, whole):
         if rng.random() < 0.7:
             folder.remove()
-            folder = Folder(task.files, MEMORY)
+            folder = Folder(task.files)
         else:
             met["going on"] += 1
         saves = kill(starting, folder, moment, task.images)
