@@ -9,6 +9,7 @@ import subprocess
 import sys
 import time
 from collections import Counter
+from contextlib import contextmanager
 from typing import NamedTuple
 
 import started
@@ -70,17 +71,23 @@ def saves_in(folder, images):
     return images[image]
 
 
-def begin(starting, folder):
+@contextmanager
+def begun(starting, folder):
+    """The program at work. Whatever comes between, it does not outlast this."""
     with open(folder.at(OUT), "wb") as out:
-        return subprocess.Popen([*starting, *COMMAND], cwd=folder.path, stdin=subprocess.DEVNULL, stdout=out,
-                                stderr=subprocess.PIPE)
+        process = subprocess.Popen([*starting, *COMMAND], cwd=folder.path, stdin=subprocess.DEVNULL, stdout=out,
+                                   stderr=subprocess.PIPE)
+    try:
+        yield process
+    finally:
+        process.kill()
+        process.communicate(timeout=PATIENCE)
 
 
 def full_run(starting, task):
     """How long it takes until something is saved, and until the end."""
-    with Folder(task.files) as folder:
-        before = time.perf_counter()
-        process = begin(starting, folder)
+    before = time.perf_counter()
+    with Folder(task.files) as folder, begun(starting, folder) as process:
         while saves_in(folder, task.images) == 0 and process.poll() is None:
             time.sleep(0.0005)
         first = time.perf_counter() - before
@@ -122,11 +129,9 @@ def moments(rng, first, whole):
 def kill(starting, folder, moment, images):
     """Starts the program, kills it at that moment, and answers how many saves the register holds then."""
     before = saves_in(folder, images)
-    process = begin(starting, folder)
-    try:
+    with begun(starting, folder) as process:
         moment(process, folder, images)
         seen = saves_in(folder, images)
-    finally:
         process.kill()
         _, said = process.communicate(timeout=PATIENCE)
     if process.returncode not in (0, -signal.SIGKILL):
@@ -143,25 +148,29 @@ def when(saves):
     return "before" if saves == 0 else "after" if saves == SAVES else "between"
 
 
+def start_afresh(folder, files):
+    """What a kill has left is gone, and the register is as it was at first."""
+    for path in folder.path.glob("r.fv*"):
+        path.unlink()
+    folder.put(b"r.fv", files[b"r.fv"])
+
+
 def kills(starting, task):
     """Each kill is of a fresh register, or goes on with what the last one left. Then the next run ends the work."""
     rng = random.Random(82)
     met = Counter()
     first, whole = full_run(starting, task)
-    folder = Folder(task.files)
-    for moment in moments(rng, first, whole):
-        if rng.random() < 0.7:
-            folder.remove()
-            folder = Folder(task.files)
-        else:
-            met["going on"] += 1
-        saves = kill(starting, folder, moment, task.images)
-        met[when(saves)] += 1
-        met["half-written"] += folder.at("r.fv.new").exists()
-        compared(starting, folder, words("check r.fv"))
-    compared(starting, folder, COMMAND)
-    same(COMMAND, "the saves at the end", saves_in(folder, task.images), SAVES)
-    folder.remove()
+    with Folder(task.files) as folder:
+        for moment in moments(rng, first, whole):
+            if rng.random() < 0.7:
+                start_afresh(folder, task.files)
+            else:
+                met["going on"] += 1
+            met[when(kill(starting, folder, moment, task.images))] += 1
+            met["half-written"] += folder.at("r.fv.new").exists()
+            compared(starting, folder, words("check r.fv"))
+        compared(starting, folder, COMMAND)
+        same(COMMAND, "the saves at the end", saves_in(folder, task.images), SAVES)
     return met, whole
 
 

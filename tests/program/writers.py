@@ -3,6 +3,7 @@ another did.
 """
 import subprocess
 import threading
+from contextlib import contextmanager
 
 import program
 import register
@@ -32,17 +33,21 @@ READERS = script("""
 ROUNDS, AT_ONCE = 4, 8
 
 
-def begin_and_hold(starting, folder):
-    """A writer that has saved its first line and waits for more."""
+@contextmanager
+def holding(starting, folder):
+    """A writer that has saved its first line and waits for more, and what it has printed."""
     process = subprocess.Popen([*starting, *HELD], cwd=folder.path, stdin=subprocess.PIPE, stdout=subprocess.PIPE,
                                stderr=subprocess.PIPE)
-    process.stdin.write(FIRST)
-    process.stdin.flush()
     patience = threading.Timer(PATIENCE, process.kill)
     patience.start()
-    out = process.stdout.readline() + process.stdout.readline()
-    patience.cancel()
-    return process, out
+    try:
+        process.stdin.write(FIRST)
+        process.stdin.flush()
+        yield process, process.stdout.readline() + process.stdout.readline()
+    finally:
+        patience.cancel()
+        process.kill()
+        process.wait(PATIENCE)
 
 
 def check_barred(starting, folder):
@@ -58,9 +63,8 @@ def check_barred(starting, folder):
 
 def held(starting):
     """One writer is in the middle of its work; then it ends, and the next has its turn."""
-    with Folder(FILES) as folder:
+    with Folder(FILES) as folder, holding(starting, folder) as (process, out):
         folder.at("link.fv").symlink_to("r.fv")
-        process, out = begin_and_hold(starting, folder)
         begun = program.answer(HELD, FILES, FIRST)
         same(HELD, "the first row", out, begun.out)
         same(HELD, "the first save", folder.at("r.fv").read_bytes(), begun.files[b"r.fv"])
@@ -80,9 +84,8 @@ def held(starting):
 def killed(starting):
     """A writer that is killed leaves a lock's file, but no lock."""
     with Folder(FILES) as folder:
-        process, _ = begin_and_hold(starting, folder)
-        process.kill()
-        process.communicate(timeout=PATIENCE)
+        with holding(starting, folder):
+            pass
         compared(starting, folder, words("withdraw r.fv 3"))
         compared(starting, folder, words("undo r.fv"))
     return 3
