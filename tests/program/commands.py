@@ -11,11 +11,11 @@ import started
 from cases import plain_scenarios
 from drawings import drawing_scenarios
 from failures import failures
+from file_shapes import file_scenarios
 from helps import helps
 from histories import history_scenarios
 from oversized import oversized
 from refusals import CHOSEN
-from file_shapes import file_scenarios
 from terminal import terminal
 
 FOREIGN_REFERENCE = "4 of the reference"

@@ -3,7 +3,7 @@ import re
 from pathlib import Path
 
 from command_line import COMMANDS, SPELLED
-from started import Folder, differ, run, same, shown, words
+from started import Folder, differ, run, same, shown
 
 HEADER = Path(__file__).resolve().parents[2] / "include" / "fearnavult.h"
 

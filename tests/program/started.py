@@ -8,10 +8,11 @@ from contextlib import ExitStack, contextmanager
 from pathlib import Path
 from typing import NamedTuple
 
+# Both scripts import this file first, so that all others find the second program too.
 sys.path.insert(1, str(Path(__file__).resolve().parents[1] / "second"))
 
-import program  # noqa: E402
-from command_line import COMMANDS, asked  # noqa: E402
+import program
+from command_line import COMMANDS, asked
 
 # Long enough for an emulator on a slow machine.
 PATIENCE = 120
