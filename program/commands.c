@@ -132,8 +132,7 @@ int enter_command(session *s) {
     }
     fv_entered e = enter_allele(s, &s->o.given);
     expect_accepted(e.refusal, e.value);
-    if (e.answer != FV_KNOWN)
-        save_register(&s->r);
+    save_register(&s->r);
     begin_table(&s->t, "answer number start end replacement left right identifier", s->o.tsv);
     add_entered(s, &s->o.given, &e);
     print_table(&s->t);
@@ -164,17 +163,11 @@ int undo_command(session *s) {
     return save_changed(s, "undone", undone.number);
 }
 
-/* With nothing to undo there is nothing to seal: no byte changes, and nothing is saved. */
 int seal_command(session *s) {
-    buffer tried = {0};
     open_register_to_change(&s->r, s->o.register_name);
-    append(&tried, s->r.image.at, s->r.image.length);
-    bool changes = fv_undo(tried.at, tried.length).refusal == FV_ACCEPTED;
-    free(tried.at);
     fv_outcome sealed = fv_seal(s->r.image.at, s->r.image.length);
     expect_accepted(sealed.refusal, sealed.value);
-    if (changes)
-        save_register(&s->r);
+    save_register(&s->r);
     begin_table(&s->t, "answer", s->o.tsv);
     add_words(&s->t, "sealed");
     print_table(&s->t);

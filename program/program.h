@@ -51,6 +51,7 @@ typedef struct {
     const char *name; /* as given */
     char *path;       /* the file itself, where the name is a link's */
     buffer image;
+    buffer saved; /* the image, as the file has it */
     bool replaces; /* a file that is there, with this mode */
     unsigned mode;
 } register_file;
@@ -128,7 +129,7 @@ void identify_reference(reference *r);
 void open_register(register_file *r, const char *name);
 void open_register_to_change(register_file *r, const char *name);
 void open_register_to_blank(register_file *r, const char *name, bool force);
-void save_register(const register_file *r);
+void save_register(register_file *r);
 
 /* table.c */
 void begin_table(table *t, const char *names, bool tsv);

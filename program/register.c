@@ -66,6 +66,7 @@ static void load(register_file *r) {
         fail(r->name, strerror(errno));
     fv_outcome o = fv_check(r->image.at, r->image.length);
     expect_accepted(o.refusal, o.value);
+    append(&r->saved, r->image.at, r->image.length);
 }
 
 void open_register(register_file *r, const char *name) {
@@ -120,8 +121,13 @@ static bool write_new(const register_file *r, const char *path) {
            fsync(file) == 0 && close(file) == 0;
 }
 
-/* The folder is opened first, so that one that can't be is told before anything is changed. */
-void save_register(const register_file *r) {
+/*
+ * A file that has the image already stays. The folder is opened first, so that one that can't be is told before
+ * anything is changed.
+ */
+void save_register(register_file *r) {
+    if (r->replaces && same(bytes_of(&r->saved), bytes_of(&r->image)))
+        return;
     char *made = joined(r->path, ".new"), *folder = folder_of(r->path);
     int opened = open(folder, O_RDONLY | O_DIRECTORY | O_CLOEXEC);
     if (opened < 0)
@@ -134,6 +140,8 @@ void save_register(const register_file *r) {
     /* EINVAL: a file system that has no such thing. */
     if ((fsync(opened) != 0 && errno != EINVAL) || close(opened) != 0)
         fail(folder, strerror(errno));
+    r->saved.length = 0;
+    append(&r->saved, r->image.at, r->image.length);
     free(made);
     free(folder);
 }

@@ -1,6 +1,6 @@
 /*
- * The lines of a VCF file: each alternate of each line on the reference is formed, or entered into a register. A refusal
- * is an answer in its row. Rows are printed only after the save that holds them.
+ * The lines of a VCF file: each alternate of each line on the reference is formed, or entered into a register. A
+ * refusal is an answer in its row. Rows are printed only after the save that holds them.
  */
 #include "program.h"
 
@@ -19,7 +19,6 @@ enum { BAR = 20, LINES_A_DRAWING = 1000 };
 typedef struct {
     session *s;
     bool entering;        /* or only forming */
-    bool changed;         /* since the last save */
     buffer out;           /* a normal replacement */
     buffer alternate;     /* in upper case */
     buffer other;         /* the first other sequence's name */
@@ -84,7 +83,6 @@ static void enter_alternate(calls *c, const fv_form *form, text alternate) {
         return;
     }
     c->answers[e.answer]++;
-    c->changed |= e.answer != FV_KNOWN;
     add_entered(c->s, &given, &e);
 }
 
@@ -105,9 +103,8 @@ static void take_alternate(calls *c, text line, uint64_t place, text alternate) 
 }
 
 static void save_and_print(calls *c) {
-    if (c->changed)
+    if (c->entering)
         save_register(&c->s->r);
-    c->changed = false;
     print_table(&c->s->t);
 }
 
@@ -195,7 +192,7 @@ static void append_count(buffer *b, uint64_t number, const char *words) {
 
 static void say_counts(const calls *c, const char *name) {
     buffer line = {0};
-    append_count(&line, c->own, " lines of ");
+    append_count(&line, c->own, c->own == 1 ? " line of " : " lines of ");
     append_masked(&line, bytes_of(&c->s->f.name));
     append_words(&line, ": ");
     if (c->entering) {

@@ -91,7 +91,7 @@ def name_said(name):
 
 def summarize(run, sequence, lines, others, counts, refused):
     """What is said after a VCF file, and the status."""
+    own = f"{len(lines)} line{'' if len(lines) == 1 else 's'} of {name_said(sequence.name)}"
     of_others = f"; {len(others)} of other sequences, the first of {name_said(others[0])}" if others else ""
-    run.said += run.calls_name() + (f": {len(lines)} lines of {name_said(sequence.name)}: "
-                                    f"{', '.join(counts)}, {refused} refused{of_others}\n").encode()
+    run.said += run.calls_name() + f": {own}: {', '.join(counts)}, {refused} refused{of_others}\n".encode()
     run.refused = refused > 0

@@ -77,7 +77,7 @@ class Run:
         self.files.pop(self.asked.register() + b".new", None)
 
     def save_change(self, image):
-        if image != self.files[self.asked.register()]:
+        if image != self.files.get(self.asked.register()):
             self.save(image)
 
     def sequence(self):
@@ -128,7 +128,7 @@ def blank(run):
     within = max(capacities) <= register.POOL_LIMIT
     room = register.Register(*capacities, 0, b"").size() if within else 0
     image, = accepted(*register.blank(bytes(room), len(sequence.residues), digest, *capacities))
-    run.save(image)
+    run.save_change(image)
     run.print(BLANK, [(b"blank", *map(number_cell, capacities), sequence.name, number_cell(len(sequence.residues)),
                        b"ga4gh:SQ." + digest)])
 
