@@ -4,4 +4,5 @@ _Noreturn void exit(int status);
 void *realloc(void *at, size_t size);
 void free(void *at);
 void qsort(void *at, size_t count, size_t size, int (*compare)(const void *one, const void *other));
+char *getenv(const char *name);
 char *realpath(const char *name, char *to);
