@@ -2,8 +2,8 @@
 docs/DEMANDS.md and docs/CALLS.md name is written somewhere, and what a row of DEMANDS.md states stands in a file that
 the row names.
 
-With words, which start the program fearnavult, it holds the consoles of docs/PROGRAM.md to the program instead: every
-command that they show, in a copy of examples/lab, prints what stands under it.
+With words, which start the program fearnavult, it holds the consoles of README.md and docs/PROGRAM.md to the program
+instead: every command that one shows, in a copy of examples/lab, prints what stands under it.
 """
 import os
 import re
@@ -18,7 +18,7 @@ from tempfile import TemporaryDirectory
 
 DOCUMENTS = ("README.md", "CHANGELOG.md", *sorted(glob("docs/*.md")))
 QUOTING = ("docs/DEMANDS.md", "docs/CALLS.md")
-CONSOLES = "docs/PROGRAM.md"
+CONSOLES = "README.md", "docs/PROGRAM.md"
 FILE = re.compile(r"[\w.*/-]+/[\w.*-]+\.(?:antt|rt|md|py|c|h|sh|txt|edit)\b")
 # Words that stand for a name.
 STANDS_FOR = re.compile(r"NAME|MODULE|FUNCTION|LABEL|PREFIX")
@@ -83,8 +83,8 @@ def lines_printed(command, folder, programs):
     return done.stdout.decode("utf-8", "replace").splitlines()
 
 
-def follow(words):
-    """Types the commands of the consoles, in order, and tells the first that prints something else."""
+def follow(document, words):
+    """Types the commands of a document's consoles, in order, and tells the first that prints something else."""
     with TemporaryDirectory() as folder:
         laboratory, programs = Path(folder, "lab"), Path(folder, "bin")
         shutil.copytree("examples/lab", laboratory)
@@ -92,13 +92,13 @@ def follow(words):
         program = programs / "fearnavult"
         program.write_text(f'#!/bin/sh\nexec {shlex.join(words)} "$@"\n', "utf-8")
         program.chmod(0o755)
-        commands = list(commands_shown(CONSOLES))
+        commands = list(commands_shown(document))
         for command, shown in commands:
             lines = lines_printed(command, laboratory, programs)
             if lines != shown:
-                difference = unified_diff(shown, lines, CONSOLES, "printed", lineterm="")
+                difference = unified_diff(shown, lines, document, "printed", lineterm="")
                 sys.exit("\n".join((f"documents: FAILED: $ {command}", *difference)))
-    print(f"documents: ok, {len(commands)} commands of {CONSOLES}")
+    print(f"documents: ok, {len(commands)} commands of {document}")
 
 
 def hold_to_tree():
@@ -113,10 +113,10 @@ def hold_to_tree():
 
 def main():
     words = [os.path.abspath(word) if os.path.exists(word) else word for word in sys.argv[1:]]
-    if words:
-        follow(words)
-    else:
+    if not words:
         hold_to_tree()
+    for document in CONSOLES if words else ():
+        follow(document, words)
 
 
 main()
