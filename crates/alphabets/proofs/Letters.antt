@@ -9,7 +9,7 @@ use Rattle.alphabets.specs.Alphabets.{letter, residue}
 
 pub letter-residue : (b : ℕ) → letter b ≡ true → residue b ≡ true
 unfolding residue
-letter-residue b h = h
+letter-residue b h = rw h
 
 pub every-residue : (s : List ℕ) → every letter s ≡ true → every residue s ≡ true
 every-residue = every-weaken letter residue letter-residue

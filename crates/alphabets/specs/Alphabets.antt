@@ -14,18 +14,18 @@ use Rattle.refusal.specs.declared.Outcome.the-variants.{Accepted, Refused}
 unfoldable pub letter : ℕ → Bool
 letter b = cond (leb 0x41 b) (leb b 0x5A) false
 
--- a residue is a letter
+-- a character is one of these
+abbrev pub occurs : ℕ → List ℕ → Bool
+occurs c [] = false
+occurs c (x ∷ xs) = cond (eqb c x) true (occurs c xs)
+
+-- a residue is a letter, a stop or a gap
 unfoldable pub residue : ℕ → Bool
-residue b = letter b
+residue b = cond (letter b) true (occurs b (ascii "*-"))
 
 -- the characters of the values 0 to 63
 abbrev pub alphabet : List ℕ
 alphabet = ascii "ABCDEFGHIJKLMNOPQRSTUVWXYZabcdefghijklmnopqrstuvwxyz0123456789-_"
-
--- c is one of them
-abbrev pub occurs : ℕ → List ℕ → Bool
-occurs c [] = false
-occurs c (x ∷ xs) = cond (eqb c x) true (occurs c xs)
 
 -- a base64url character
 unfoldable pub base64url : ℕ → Bool

@@ -1,5 +1,6 @@
 // Residues, tested a block at a time.
 ghost use mathlib.Core.Path.{_≡_};
+ghost use mathlib.Core.Bool.{cond};
 ghost use Prim.Native.Nat.{_+_, _≤_};
 ghost use lib.ListN.{length, drop};
 ghost use Rattle.stretch.specs.Class.{every};
@@ -17,24 +18,41 @@ pub fn is_letter(b: u8) -> bool
 fn is_residue(b: u8) -> bool
     ensures { λ r. ⌜ r ≡ residue b ⌝ }
 {
-    is_letter(b)
+    is_letter(b) | (b == b'*') | (b == b'-')
 }
 
-// Whether every byte is a residue. It looks at all of them, without a way out of the loop, so that
-// the compiler can test many at a step.
-fn all_residues(s: &[u8]) -> bool
-    ensures { λ r. ⌜ r ≡ every residue (now (s .entry)) ⌝ }
+fn is_of(b: u8, plain: bool) -> bool
+    ensures { λ r. ⌜ r ≡ cond plain letter residue b ⌝ }
+{
+    if plain {
+        return is_letter(b);
+    }
+    is_residue(b)
+}
+
+// Whether every byte is a residue or, where it is to be plain, a letter. It looks at all of them, without a
+// way out of the loop, so that the compiler can test many at a step.
+fn all_of(s: &[u8], plain: bool) -> bool
+    ensures { λ r. ⌜ r ≡ every (cond plain letter residue) (now (s .entry)) ⌝ }
 {
     let mut all = true;
     let mut i = 0;
     while i < s.len() {
-        all = all & is_residue(s[i]);
+        all = all & is_of(s[i], plain);
         i += 1;
     }
     all
 }
 
-// How many bytes lie in the blocks of residues that `s` begins with; its last block may be shorter.
+// Whether every byte is a residue. Most blocks are letters alone, which takes half the time to test.
+fn all_residues(s: &[u8]) -> bool
+    ensures { λ r. ⌜ r ≡ every residue (now (s .entry)) ⌝ }
+{
+    all_of(s, true) || all_of(s, false)
+}
+
+// How many bytes lie in the blocks of residues that `s` begins with. What is left behind its last whole block
+// counts too where it is letters alone.
 fn clean_blocks(s: &[u8]) -> usize
     ensures { λ r. ⌜ r ≤ length (now (s .entry)) ⌝ }
     ensures { λ r. ⌜ foreign (now (s .entry)) ≡ r + foreign (drop r (now (s .entry))) ⌝ }
@@ -46,7 +64,7 @@ fn clean_blocks(s: &[u8]) -> usize
         }
         i += BLOCK;
     }
-    if all_residues(&s[i..]) {
+    if all_of(&s[i..], true) {
         return s.len();
     }
     i

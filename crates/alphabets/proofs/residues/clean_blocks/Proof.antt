@@ -7,6 +7,7 @@ use borrow.Author.Needs.{needs}
 use borrow.Author.Tests.{not-false}
 use Rattle.alphabets.specs.Alphabets.{residue, foreign}
 use Rattle.stretch.proofs.Outside.{firstOutside-block, firstOutside-rest}
+use Rattle.alphabets.proofs.Letters.{every-residue}
 use Rattle.alphabets.proofs.residues.clean_blocks.Statement.{statement}
 use Rattle.alphabets.proofs.residues.clean_blocks.Tie as tie
 
@@ -53,23 +54,23 @@ loop-again c = let l = c .before .before .before .before .loop in (
       (sym (c .before .all-residues .ensures) ∙ not-false _ (c .if1 .left)) (l .inv .1),
 )
 
-sub-all-residues-2 : tie.Need-sub-all-residues-2 Inv-loop μ-loop
-sub-all-residues-2 c = search needs
+sub-all-of : tie.Need-sub-all-of Inv-loop μ-loop
+sub-all-of c = search needs
 
-part-all-residues-start-2 : tie.Need-part-all-residues-start-2 Inv-loop μ-loop
-part-all-residues-start-2 c = search needs
+part-all-of-start : tie.Need-part-all-of-start Inv-loop μ-loop
+part-all-of-start c = search needs
 
-part-all-residues-end-2 : tie.Need-part-all-residues-end-2 Inv-loop μ-loop
-part-all-residues-end-2 c = search needs
+part-all-of-end : tie.Need-part-all-of-end Inv-loop μ-loop
+part-all-of-end c = search needs
 
-all-residues-requires-2 : tie.Need-all-residues-requires-2 Inv-loop μ-loop
-all-residues-requires-2 c κs = search needs
+all-of-requires : tie.Need-all-of-requires Inv-loop μ-loop
+all-of-requires c κs = search needs
 
 returns-2 : tie.Need-returns-2 Inv-loop μ-loop
 returns-2 c = let l = c .before .before .before .before .loop in (
   omega arith,
   firstOutside-rest residue _ (l .i) (l .inv .0)
-      (sym (c .before .all-residues2 .ensures) ∙ c .if2 .taken) (l .inv .1),
+      (every-residue _ (sym (c .before .all-of .ensures) ∙ c .if2 .taken)) (l .inv .1),
 )
 
 returns-3 : tie.Need-returns-3 Inv-loop μ-loop
@@ -92,9 +93,9 @@ clean-blocks-spec =
     add-i
     loop-less
     loop-again
-    sub-all-residues-2
-    part-all-residues-start-2
-    part-all-residues-end-2
-    all-residues-requires-2
+    sub-all-of
+    part-all-of-start
+    part-all-of-end
+    all-of-requires
     returns-2
     returns-3)
