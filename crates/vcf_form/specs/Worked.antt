@@ -62,5 +62,7 @@ cases =
     ∷ case ("chr1" ∷ "12" ∷ "." ∷ "G" ∷ "T" ∷ []) 1 (turned 19 0)
     ∷ case ("chr1" ∷ "04" ∷ "." ∷ "G" ∷ "T" ∷ []) 1 (turned 19 0)
     ∷ case ("chr1" ∷ "4" ∷ "." ∷ "G" ∷ []) 1 (turned 19 0)
+    ∷ case ("chr1" ∷ "4" ∷ "." ∷ "*" ∷ "T" ∷ []) 1 (turned 19 0)
+    ∷ case ("chr1" ∷ "4" ∷ "." ∷ "G" ∷ "-" ∷ []) 1 (turned 21 1)
     ∷ case ("chr1" ∷ "4" ∷ "." ∷ "G" ∷ "GCAGCAG" ∷ []) 1 (turned 6 15)
     ∷ []
