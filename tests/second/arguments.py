@@ -2,16 +2,17 @@
 from itertools import product
 
 import alleles
-from model import REFERENCE_LIMIT
+from model import REFERENCE_LIMIT, RESIDUES
 
-# The bytes on either side of A to Z, a lower-case letter, and the ends of a byte's range.
-FOREIGN = (0x40, 0x5B, 0x61, 0x7A, 0x00, 0xFF)
+# The bytes on either side of a residue, lower-case letters, and the ends of a byte's range.
+FOREIGN = b")+,.@[az\x00\xff"
 # SHA-512 takes blocks of 128 bytes, and pads into one more where under 17 bytes of the last are left.
 EDGES = tuple(128 * k + offset for k in range(5) for offset in (0, 1, 110, 111, 112, 113, 126, 127) if 128 * k + offset <= 600)
 # Positions far past the end of any reference; some come back to its start where a call cuts them to 32 bits.
 FAR_POSITIONS = (2**31, 2**32, 2**32 + 1, 2**32 + 5, 2**63 - 1, 2**63, 2**64 - 2, 2**64 - 1)
 
 LETTER_OF = bytes(ord("A") + byte % 26 for byte in range(256))
+RESIDUE_OF = bytes(RESIDUES[byte % len(RESIDUES)] for byte in range(256))
 
 
 def far(length):
@@ -34,6 +35,10 @@ def some_extreme(rng, *numbers):
 
 def letters(rng, length):
     return rng.randbytes(length).translate(LETTER_OF)
+
+
+def any_residues(rng, length):
+    return rng.randbytes(length).translate(RESIDUE_OF)
 
 
 def with_byte(text, offset, byte):
@@ -65,15 +70,15 @@ def misplaced(rng, reference, start, end):
                        (end, start), (end + 1, end), (start, n + 1), (n + 1, n + 1)))
 
 
-def letter_lost(rng, reference):
-    """The reference with every one of some letter turned to one foreign byte, so that its repeats still repeat."""
+def residue_lost(rng, reference):
+    """The reference with every one of some residue turned to one foreign byte, so that its repeats still repeat."""
     return reference.replace(bytes([rng.choice(reference)]), bytes([rng.choice(FOREIGN)]))
 
 
 def marred(rng, reference, start, end, replacement):
     """The allele with some of what speaks against one, now and then several at once."""
     if reference and rng.random() < 0.6:
-        reference = rng.choice((spoiled, letter_lost, letter_lost))(rng, reference)
+        reference = rng.choice((spoiled, residue_lost, residue_lost))(rng, reference)
     if replacement and rng.random() < 0.3:
         replacement = spoiled(rng, replacement)
     if rng.random() < 0.3:
@@ -82,11 +87,11 @@ def marred(rng, reference, start, end, replacement):
 
 
 def every_foreign(longest):
-    """Every allele on a reference of up to so many bytes, each A, C or a foreign one, which comes at least once, with
-    a replacement of up to 2 residues."""
-    replacements = list(alleles.texts(2))
-    for reference in alleles.texts(longest, b"ACx"):
-        if b"x" in reference:
+    """Every allele on a reference of up to so many bytes, each A, a stop or a foreign one, which comes at least once,
+    with a replacement of up to 2 residues."""
+    replacements = list(alleles.texts(2, b"A*"))
+    for reference in alleles.texts(longest, b"A*+"):
+        if b"+" in reference:
             yield from alleles.every_on(reference, replacements)
 
 
@@ -101,7 +106,7 @@ def every_interval():
 def foreign_units():
     """Units with a foreign byte in them, of which some go from a repeat, the byte behind them given or not:
     others are rolled over. And residues that come into the same repeat."""
-    for unit in (b"x", b"xA", b"Ax", b"xx", b"CAx", b"xAG", b"CxxG", b"x@A", b"[Z"):
+    for unit in (b"x", b"xA", b"Ax", b"xx", b"CAx", b"xAG", b"CxxG", b"x@A", b"[Z", b"*+", b"-,", b".-", b")*"):
         for times in range(5):
             reference = b"T" + unit * times + unit[:1] + b"T"
             for start in range(len(reference) + 1):

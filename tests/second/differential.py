@@ -8,11 +8,13 @@ from concurrent.futures import ProcessPoolExecutor
 from functools import partial
 
 from blank_cases import blank_cases
+from byte_cases import byte_cases
 from damage_cases import damage_cases
 from exchange import Disagreement, Skipped, exchange
 from form_cases import normal_form_cases
 from full_cases import full_cases
 from history_cases import history_cases
+from model import RESIDUES
 from read_cases import read_allele_cases, read_location_cases
 from register import STATUS
 from register_cases import register_cases
@@ -25,8 +27,8 @@ from vcf_molecules import vcf_molecule_cases
 
 # Every entry in every shape.
 ENTERED = {f"{found} {shape}" for found in ("new", "again", "known") for shape in SHAPES}
-# A record in every status, with letters and without.
-READ = {f"{status}{letters}" for status in STATUS for letters in ("", " empty")}
+# A record in every status, with residues and without.
+READ = {f"{status}{residues}" for status in STATUS for residues in ("", " empty")}
 # seed, cases, and for each call the outcomes that they have to meet: accepted, in its shapes or statuses where it has
 # them, and refusals by number
 SUITES = (
@@ -88,7 +90,25 @@ SUITES = (
     }),
     (54, vcf_cases, {"fv_vcf_count": {"accepted", 1, 19, 20}, "fv_vcf_form": {*SHAPES, 1, 6, 19, 20, 21}}),
     (55, vcf_molecule_cases, {"fv_vcf_count": {"accepted"}, "fv_vcf_form": SHAPES}),
+    (56, byte_cases, {
+        "fv_sequence_identifier": {"accepted", 4},
+        "fv_running_feed": {"accepted", 4},
+        "fv_normal_form": {"kept-kept", "kept-widened", 4, 5},
+        "fv_allele_text": {"accepted", 4, 5},
+        "fv_allele_identifier": {"kept-kept", "kept-widened", 4, 5},
+        "fv_read_allele": {"accepted", 8},
+        "fv_entry": {"new kept-kept", "new kept-widened", 4, 5, 10},
+        "fv_withdraw": {"accepted", 10},
+        "fv_undo": {"accepted", 10},
+        "fv_seal": {"accepted", 10},
+        "fv_check": {"accepted", 10},
+        "fv_read_record": {"active", 10},
+    }),
 )
+# Which slices of a call are a reference, a part or a replacement. In each of them some accepted call has to have each
+# residue, those of byte_cases aside, which have it by their making.
+OF_RESIDUES = {"fv_sequence_identifier": (0,), "fv_running_feed": (1,), "fv_normal_form": (0, 1), "fv_entry": (2, 3),
+               "fv_allele_text": (0, 1), "fv_allele_identifier": (0, 1), "fv_vcf_form": (0,)}
 # So many suites run at a time. Each has its own seed, so that it makes the same calls in any company.
 SIDE_BY_SIDE = 2
 
@@ -114,18 +134,39 @@ def check(wanted, met):
             sys.exit(f"differential: FAILED: {call}: never met {sorted(missed, key=str)}")
 
 
+def noting(cases, undrawn):
+    """The cases. What an accepted one has in a slice of residues is taken out of what is undrawn there."""
+    for case in cases:
+        for place in OF_RESIDUES.get(case.call, ()):
+            left = undrawn[case.call, place]
+            if left and isinstance(case.outcome(), str) and isinstance(case.slices[place], bytes):
+                left.difference_update(case.slices[place])
+        yield case
+
+
 def run(command, suite):
     seed, cases, _ = suite
-    return exchange(command, cases(random.Random(seed)))
+    undrawn = {(call, place): set(RESIDUES) for call, places in OF_RESIDUES.items() for place in places}
+    return exchange(command, noting(cases(random.Random(seed)), undrawn)), undrawn
+
+
+def check_drawn(undrawn):
+    """Ends the program where a slice of residues has never had one of them, whatever the suite."""
+    for call, place in undrawn[0]:
+        never = set.intersection(*(left[call, place] for left in undrawn))
+        if never:
+            sys.exit(f"differential: FAILED: {call}: never drew {bytes(sorted(never))} in slice {place}")
 
 
 def main(command):
-    total = 0
+    total, undrawn = 0, []
     with ProcessPoolExecutor(SIDE_BY_SIDE) as pool:
-        for (seed, cases, wanted), met in zip(SUITES, pool.map(partial(run, command), SUITES)):
+        for (seed, cases, wanted), (met, left) in zip(SUITES, pool.map(partial(run, command), SUITES)):
             print(f"differential: {cases.__name__}, seed {seed}")
             check(wanted, met)
             total += sum(count for (_, outcome), count in met.items() if not isinstance(outcome, Skipped))
+            undrawn += [left] if cases is not byte_cases else []
+    check_drawn(undrawn)
     print(f"differential: ok, {total} calls answered as the second program says, byte for byte")
 
 

@@ -3,8 +3,8 @@ from itertools import chain
 
 import alleles
 import model
-from arguments import (every_foreign, every_interval, far, foreign_units, letters, marred, room_and_place, some_extreme,
-                       with_byte)
+from arguments import (any_residues, every_foreign, every_interval, far, foreign_units, marred, room_and_place,
+                       some_extreme, with_byte)
 from exchange import Case, Untouched
 from model import UNMOVED
 from shapes import shape
@@ -39,7 +39,7 @@ def every_room(rng):
 def at_the_limits(rng):
     """Each length at its limit and one over it, with and without what later refusals speak of."""
     limit = model.REPLACEMENT_LIMIT
-    most = letters(rng, limit)
+    most = any_residues(rng, limit)
     more = most + b"A"
     for replacement in (most, more, with_byte(most, limit - 1, 0x5B), Untouched(limit), Untouched(limit + 1)):
         for reference, start, end in ((b"", 0, 0), (b"ACGT", 1, 2), (b"ACGT", 2, 1), (b"ACGT", 1, 5)):
@@ -52,7 +52,7 @@ def at_the_limits(rng):
     for replacement in (b"", b"A", b"a", more):
         for start, end in ((1, 0), (2**64 - 1, 2**64 - 2), (len(longest), len(longer)), (0, 2**64 - 1)):
             yield normal_form(longest, start, end, replacement, rng.randbytes(3), 1)
-    for replacement in (b"A", b"CAG", most):
+    for replacement in (b"A", b"CAG", b"*-", most):
         yield from beside_zeros(rng, longest, replacement)
     yield from nothing_beside_zeros(longest)
 
@@ -90,7 +90,8 @@ def extreme_numbers(rng):
 
 
 def normal_form_cases(rng):
-    for allele in chain(alleles.every_small(7), alleles.every_small(5, b"ACG", 2), every_foreign(5), every_interval()):
+    small = alleles.every_small(7), alleles.every_small(5, b"A*-", 2), alleles.every_small(1, model.RESIDUES, 1)
+    for allele in chain(*small, every_foreign(5), every_interval()):
         yield normal_form(*allele, rng.randbytes(13), 3)
     for allele in chain(alleles.long_rolls(), alleles.long_moves(), foreign_units()):
         yield placed(rng, *allele)

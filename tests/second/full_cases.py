@@ -1,6 +1,6 @@
 """Calls at full size on memory that is filled: all residues, as many as there may be.
 
-Nothing here is compared letter by letter: what each call answers is known from its one letter, and digests are
+Nothing here is compared residue by residue: what each call answers is known from its one residue, and digests are
 hashlib's, over pieces.
 """
 from functools import lru_cache
@@ -17,11 +17,11 @@ from vcf_calls import form_case, line
 
 LIMIT = model.REFERENCE_LIMIT
 RESIDUES_LIMIT = texts.RESIDUES_LIMIT
-LONGEST = Repeated(b"A", LIMIT)
-FOREIGN_LAST = Repeated(b"A", LIMIT - 1, tail=b"a")
-# As many letters as may be given, put into the longest reference, are rolled over all of it: the normal form is from
-# 0 to its end, with RESIDUES_LIMIT letters.
-INSERTION = LONGEST, LIMIT // 3, LIMIT // 3, b"A" * model.REPLACEMENT_LIMIT
+LONGEST = Repeated(b"A", LIMIT - 1, b"-")
+FOREIGN_LAST = Repeated(b"A", LIMIT - 2, b"*", b"+")
+# As many stops as may be given, put into the longest reference, which is all stops, are rolled over all of it: the normal
+# form is from 0 to its end, with RESIDUES_LIMIT stops.
+INSERTION = Repeated(b"*", LIMIT), LIMIT // 3, LIMIT // 3, b"*" * model.REPLACEMENT_LIMIT
 
 
 @lru_cache
@@ -29,16 +29,16 @@ def identifier(reference):
     return b"ga4gh:SQ." + model.digest(*reference.pieces())
 
 
-def allele_text(location_digest, letters):
-    """The text of an allele whose replacement is so many letters A."""
+def allele_text(location_digest, stops):
+    """The text of an allele whose replacement is so many stops."""
     head, tail = texts.allele(location_digest, b"%").split(b"%")
-    return Repeated(b"A", letters, head, tail)
+    return Repeated(b"*", stops, head, tail)
 
 
 def read_texts(rng):
-    """A text with as many letters as there may be, without its end, and with one letter more."""
+    """A text with as many stops as there may be, without its end, and with one stop more."""
     most, more = (allele_text(some_digest(rng), RESIDUES_LIMIT + over) for over in (0, 1))
-    cut = Repeated(b"A", RESIDUES_LIMIT, most.head, most.tail[:-1])
+    cut = Repeated(b"*", RESIDUES_LIMIT, most.head, most.tail[:-1])
     for text, answer in ((most, (0, 0, 13, 68, RESIDUES_LIMIT)), (cut, (8, len(cut), 0, 0, 0)),
                          (more, (8, len(more.head) + RESIDUES_LIMIT, 0, 0, 0))):
         yield Case("fv_read_allele", b"r", (), (text,), answer, ())
@@ -53,8 +53,8 @@ def sequence_identifiers(rng):
 
 
 def in_parts(rng):
-    """The longest reference in two parts, and then a letter too many, which is refused and leaves no trace."""
-    more, out = Repeated(b"A", LIMIT + 1), rng.randbytes(43)
+    """The longest reference in two parts, and then a residue too many, which is refused and leaves no trace."""
+    more, out = Repeated(b"A", LIMIT, LONGEST.head), rng.randbytes(43)
     after = model.written(out, 1, identifier(LONGEST))
     outcomes = *model.ACCEPTED, *model.ACCEPTED, 1, 0
     yield Case("fv_running_* in a row", b"P", (LIMIT // 3, LIMIT, 1), (more, out), (0, 0, 41, *outcomes), (after,))
@@ -82,7 +82,7 @@ def alleles_said(rng):
 def entries(rng):
     """Into a pool without room for it."""
     digest = some_digest(rng)
-    form = model.Form(model.INDEL, 0, LIMIT, Repeated(b"A", RESIDUES_LIMIT))
+    form = model.Form(model.INDEL, 0, LIMIT, Repeated(b"*", RESIDUES_LIMIT))
     image = image_of(rng, Register(1, 1, 100, LIMIT, digest))
     yield entry_as(image, digest, *INSERTION, form)
     yield from every_reading(image)
@@ -94,7 +94,7 @@ def vcf_forms(rng):
     accepted = 0, 0, model.SUBSTITUTION, LIMIT - 1, LIMIT, 1, *model.UNMOVED
     for ref, alt, answer, after in ((b"a", b"c", accepted, model.written(out, 1, b"C")),
                                     (b"aA", b"c", (20, 1, 0, 0, 0, 0, *model.UNMOVED), out),
-                                    (b"A", b"a" * most, (6, LIMIT + most - 1, 0, 0, 0, 0, *model.UNMOVED), out)):
+                                    (b"A", b"a" * most, (6, LIMIT + most - 2, 0, 0, 0, 0, *model.UNMOVED), out)):
         yield form_case(LONGEST, line(LIMIT, ref, alt), 1, out, 1, answer, after)
 
 

@@ -81,10 +81,10 @@ def history(rng):
 
 
 def every_small_entered(rng, longest):
-    """Every allele on each reference of up to so many residues, one after another into one register: those that make
-    the same sequence have one number."""
-    replacements = list(alleles.texts(3))
-    for reference in alleles.texts(longest):
+    """Every allele on each reference of up to so many residues, A or a stop, one after another into one register: those
+    that make the same sequence have one number."""
+    replacements = list(alleles.texts(3, b"A*"))
+    for reference in alleles.texts(longest, b"A*"):
         digest = some_digest(rng)
         image = image_of(rng, Register(120, 120, 320, len(reference), digest))
         for _, start, end, replacement in alleles.every_on(reference, replacements):

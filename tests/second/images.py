@@ -6,7 +6,7 @@ from struct import pack, unpack_from
 
 import alleles
 import model
-from arguments import letter_lost, with_byte
+from arguments import residue_lost, with_byte
 from register import ACTIVE, ENTRY_SIZE, HEADER_SIZE, INACTIVE, RECORD_SIZE, Record, Register, laid
 
 # The header's numbers are at 0, 4 and so on to 40.
@@ -35,17 +35,22 @@ def record_at(number):
     return HEADER_SIZE + RECORD_SIZE * (number - 1)
 
 
+def few_residues(rng, length):
+    """Mostly of few kinds, so that they repeat, and repeat what others have drawn."""
+    return alleles.residues(rng, length, rng.choice((b"AC", b"CAG", b"A*", b"*-", model.RESIDUES)))
+
+
 def small_reference(rng):
     """Few residues, mostly in a repeat, and now and then foreign bytes in the place of one of them."""
-    unit = alleles.residues(rng, rng.randint(1, 3), rng.choice((b"AC", b"CAG", b"ACGT")))
-    reference = alleles.residues(rng, rng.randint(0, 2)) + unit * rng.randint(0, 4) + alleles.residues(rng, rng.randint(0, 2))
-    return letter_lost(rng, reference) if reference and rng.random() < 0.2 else reference
+    unit = few_residues(rng, rng.randint(1, 3))
+    reference = few_residues(rng, rng.randint(0, 2)) + unit * rng.randint(0, 4) + few_residues(rng, rng.randint(0, 2))
+    return residue_lost(rng, reference) if reference and rng.random() < 0.2 else reference
 
 
 def small_allele(rng, reference):
     start, end = sorted((rng.randint(0, len(reference)), rng.randint(0, len(reference))))
     end = min(end, start + rng.choice((0, 1, 3, end)))
-    return start, end, alleles.residues(rng, rng.choice((0, 1, 1, 2, 3)), rng.choice((b"AC", b"CAG")))
+    return start, end, few_residues(rng, rng.choice((0, 1, 1, 2, 3)))
 
 
 def some_record(rng, reference):
@@ -74,8 +79,8 @@ def bytes_damaged(image, places):
     """Another byte at each of these places, several values each."""
     for place in places:
         byte = image[place]
-        others = {byte ^ 1, byte ^ 0x80, (byte + 1) % 256, (byte - 1) % 256, 0, 1, 2, 0xFF, *b"+/:@[`{-_AZaz"} - {byte}
-        for other in sorted(others):
+        others = {byte ^ 1, byte ^ 0x80, (byte + 1) % 256, (byte - 1) % 256, 0, 1, 2, 0xFF, *b")*+,-./:@[`{_AZaz"}
+        for other in sorted(others - {byte}):
             yield with_byte(image, place, other)
 
 
@@ -119,7 +124,7 @@ def counts_over(rng, digest):
     # the sixth entry would stand in the pool
     journal = pack("<6I", *[1] * 6)
     yield with_number(model.written(image, over.journal_at(), journal), JOURNALLED_AT, 6)
-    # the tenth letter would stand behind the pool
+    # the tenth residue would stand behind the pool
     full = over._replace(pool=10, issued=(one._replace(replacement=b"ACGTACGTAC"),))
     yield with_number(image_of(rng, full, 8), POOL_CAPACITY_AT, 9)
 

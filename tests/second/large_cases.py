@@ -48,8 +48,8 @@ def longest_reference(rng):
 
 
 def coded(number, length):
-    """A number as so many letters A, C or G."""
-    return bytes(b"ACG"[number // 3**place % 3] for place in range(length))
+    """A number as so many residues: A, a stop or a gap."""
+    return bytes(b"A*-"[number // 3**place % 3] for place in range(length))
 
 
 def many_records(rng):
@@ -66,7 +66,7 @@ def many_records(rng):
     known, again, last_again = 9_997, 9_998, 9_999
     for number in (1, 2, 3, 5_000, known, again, last_again, count):
         yield enter(image, number)
-    yield entry(image, DIGEST, reference, 0, 0, b"ACGA")
+    yield entry(image, DIGEST, reference, 0, 0, b"A*-A")
     for number in (1, known, count, count + 1):
         yield withdraw(image, number)
     last = enter(image, again)
@@ -82,8 +82,8 @@ def many_records(rng):
 
 
 def large_pool(rng):
-    """As many letters as there may be: the pool filled exactly, or all but one."""
-    longest = b"ACGTACGT" * (model.REPLACEMENT_LIMIT // 8)
+    """As many residues as there may be: the pool filled exactly, or all but one."""
+    longest = b"*CGTACG-" * (model.REPLACEMENT_LIMIT // 8)
     issued = tuple(Record(position, position, longest, ACTIVE) for position in range(10))
     register = Register(12, 2, POOL_LIMIT, 11, DIGEST, issued)
     reference = b"X" * 11
@@ -93,7 +93,7 @@ def large_pool(rng):
     yield entry(image, DIGEST, reference, 11, 11, b"A")
     for number in (1, 2, 10, 11):
         yield read_record(image, number)
-    for damaged in (with_byte(image, len(image) - 1, 0x61), image[:-1]):
+    for damaged in (with_byte(image, len(image) - 1, 0x2B), image[:-1]):
         yield seal(damaged)
         yield check(damaged)
         yield read_record(damaged, 1)
@@ -105,13 +105,13 @@ def large_pool(rng):
 
 
 def long_replacement(rng):
-    """A letter into a run of so many that the normal replacement has more letters than one that is given may have."""
-    run = b"A" * (model.REPLACEMENT_LIMIT + 1)
+    """A stop into a run of so many that the normal replacement has more residues than one that is given may have."""
+    run = b"*" * (model.REPLACEMENT_LIMIT + 1)
     image = image_of(rng, Register(1, 3, len(run) + 1, len(run), DIGEST))
     for room in (image, with_number(image, POOL_CAPACITY_AT, len(run))):
-        yield entry(room, DIGEST, run, 5, 5, b"A")
-    new = entry(image, DIGEST, run, 5, 5, b"A")
-    yield entry(after(new), DIGEST, run, 9, 10, b"AA")
+        yield entry(room, DIGEST, run, 5, 5, b"*")
+    new = entry(image, DIGEST, run, 5, 5, b"*")
+    yield entry(after(new), DIGEST, run, 9, 10, b"**")
     yield withdraw(after(new), 1)
     yield undo(after(new))
     yield from every_reading(after(new))

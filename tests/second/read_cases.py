@@ -5,13 +5,13 @@ import alleles
 import model
 import published
 import texts
-from arguments import EDGES, FOREIGN, letters, with_byte
+from arguments import EDGES, FOREIGN, any_residues, with_byte
 from exchange import Case, Untouched
 from text_cases import POWERS, some_digest
 
 LIMIT = model.REFERENCE_LIMIT
 # What may come in the place of a byte or before it: digits, quotes, the ends of alphabets and beside them.
-PUT = b'0159"\',:{} AZaz_-@[\x00\xff'
+PUT = b'0159"\',:{} AZaz_*-)+.@[\x00\xff'
 # In the place of a number: many are none, or above a limit, or within it where they are cut to 32 or 64 bits.
 NUMBERS = (
     b"", b"0", b"00", b"01", b"5", b"6", b"9", b"10", b"010", b"49", b"50", b"51", b"500", b"99", b"100",
@@ -120,19 +120,19 @@ def location_texts(rng):
 
 
 def allele_texts(rng):
-    some = (b"", b"C", b"CAGCAGCAGCAG", bytes(range(ord("A"), ord("Z") + 1)))
+    some = (b"", b"*", b"-CAGCAGCAG*", model.RESIDUES)
     yield from chain.from_iterable(damaged(texts.allele(some_digest(rng), replacement)) for replacement in some)
     yield from (allele.text() for allele in published.ALLELES)
     for length in (*range(70), *EDGES, *alleles.STEPS, 100_000):
-        text = texts.allele(some_digest(rng), letters(rng, length))
+        text = texts.allele(some_digest(rng), any_residues(rng, length))
         yield from (text, text[:-1], text + b"}", text[:68 + length])
     for byte, offset in product(range(256), (0, 1, 7, 8, 31, 32, 63, 64)):
-        yield texts.allele(some_digest(rng), with_byte(letters(rng, 65), offset, byte))
+        yield texts.allele(some_digest(rng), with_byte(any_residues(rng, 65), offset, byte))
     for byte, offset in product(FOREIGN, (127, 128, 511, 512, 1023, 1024, 1499)):
-        yield texts.allele(some_digest(rng), with_byte(letters(rng, 1500), offset, byte))
+        yield texts.allele(some_digest(rng), with_byte(any_residues(rng, 1500), offset, byte))
     for digest in filled_digests(rng):
         yield texts.allele(digest, b"CAG")
-    yield from every_byte(texts.allele(some_digest(rng), b"AZ"))
+    yield from every_byte(texts.allele(some_digest(rng), b"*Z-"))
     for _ in range(12_000):
         yield damaged_more(rng, texts.allele(some_digest(rng), rng.choice(some)))
 

@@ -23,7 +23,7 @@ WORDS = {
 # Those whose value chooses the words.
 CHOSEN = {
     (1, 0): f"the reference has over {REFERENCE_LIMIT} residues",
-    (1, 1): f"the replacement has over {REPLACEMENT_LIMIT} letters",
+    (1, 1): f"the replacement has over {REPLACEMENT_LIMIT} residues",
     (11, 0): "the reference has another digest than the register's",
     (11, 1): "the reference has another length than the register's",
 }

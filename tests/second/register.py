@@ -103,15 +103,15 @@ def read(image):
     return with_lists(register, list(slots), [number for number, in entries], image[pool_at:pool_at + used])
 
 
-def with_lists(register, slots, entries, letters):
+def with_lists(register, slots, entries, pool):
     """The register with these records, journal and used pool, or None where one of them is not as it has to be."""
     taken, issued = 0, []
     for start, end, offset, length, status in slots:
         if not start <= end <= register.residues or status not in (INACTIVE, ACTIVE) or offset != taken:
             return None
-        issued.append(Record(start, end, letters[offset:offset + length], status))
+        issued.append(Record(start, end, pool[offset:offset + length], status))
         taken += length
-    if taken != len(letters) or model.first_outside(model.RESIDUES, letters) is not None:
+    if taken != len(pool) or model.first_outside(model.RESIDUES, pool) is not None:
         return None
     if not all(1 <= number <= len(slots) for number in entries):
         return None

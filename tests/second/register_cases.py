@@ -103,7 +103,7 @@ def beside_the_form(rng):
     text = equal.replacement
     others = [equal._replace(start=0), equal._replace(start=2), equal._replace(end=9), equal._replace(end=11),
               equal._replace(replacement=text[:-1]), equal._replace(replacement=text + b"A"), equal._replace(replacement=b"")]
-    others += [equal._replace(replacement=with_byte(text, offset, 0x54)) for offset in range(len(text))]
+    others += [equal._replace(replacement=with_byte(text, *other)) for other in product(range(len(text)), b"T*")]
     for issued in (others, [*others, equal], [*others, equal._replace(status=INACTIVE)], [equal, *others]):
         for statuses in (lambda record: record, lambda record: record._replace(status=1 - record.status)):
             given = tuple(map(statuses, issued))
@@ -123,17 +123,18 @@ def not_in_normal_form(rng):
 def any_room(rng):
     """Every choice of what is full, or has no capacity at all, with what each call might want of it."""
     issued = recorded(INSERTION), recorded(SUBSTITUTION, INACTIVE)
-    for records, journal, letters in product((0, 1), (0, 1), (0, 1, 2, 3)):
+    for records, journal, residues in product((0, 1), (0, 1), (0, 1, 2, 3)):
         for journalled in ((), (2,), (1, 2)):
-            register = Register(2 + records, len(journalled) + journal, 13 + letters, len(REPEAT), DIGEST, issued, journalled)
+            register = Register(2 + records, len(journalled) + journal, 13 + residues, len(REPEAT), DIGEST, issued,
+                                journalled)
             yield from room_wanted(image_of(rng, register, 2))
     for records, journal, pool in product((0, 1), (0, 1), (0, 1, 2, 3)):
         yield from room_wanted(image_of(rng, Register(records, journal, pool, len(REPEAT), DIGEST), 2))
 
 
 def room_wanted(image):
-    """Alleles that are known, again or new, of no letters to four, after one another too."""
-    new = DELETION, (3, 5, b""), (11, 11, b"A"), (11, 11, b"AC"), (11, 11, b"ACC"), (11, 11, b"ACCC")
+    """Alleles that are known, again or new, of no residues to four, after one another too."""
+    new = DELETION, (3, 5, b""), (11, 11, b"*"), (11, 11, b"-*"), (11, 11, b"A-*"), (11, 11, b"*A--")
     for allele in (INSERTION, SUBSTITUTION, *new):
         case = on_repeat(image, allele)
         yield case

@@ -3,7 +3,7 @@ from itertools import product
 
 import model
 import sha512
-from arguments import EDGES, FAR_POSITIONS, extreme, far, letters, room_and_place, spoiled, with_byte
+from arguments import EDGES, FAR_POSITIONS, FOREIGN, any_residues, extreme, far, room_and_place, spoiled, with_byte
 from exchange import Case, Untouched
 from running import BEGUN, STATE_SIZE, State, feed, finish
 
@@ -47,7 +47,7 @@ def in_parts_case(reference, cuts, out, place):
 def any_state(rng, total):
     """A state with any words, and any bytes behind those that wait."""
     words = tuple(rng.getrandbits(64) for _ in range(8))
-    return State(words, rng.choice((rng.randbytes(128), letters(rng, 128))), total)
+    return State(words, rng.choice((rng.randbytes(128), any_residues(rng, 128))), total)
 
 
 def parts_of(rng, *parts):
@@ -66,7 +66,7 @@ def cut_at_edges(rng):
     """References that end at every edge, cut at every edge before, and once more behind it."""
     for length, cut in product(EDGES, repeat=2):
         if cut <= length:
-            reference = letters(rng, length)
+            reference = any_residues(rng, length)
             second = rng.randint(cut, length)
             yield from parts_of(rng, reference[:cut], reference[cut:])
             yield in_parts_case(reference, (cut, second), rng.randbytes(44), 3)
@@ -75,11 +75,11 @@ def cut_at_edges(rng):
 def cut_anywhere(rng):
     """References in any number of parts, some empty, and refused ones between them."""
     for _ in range(400):
-        reference = letters(rng, rng.choice((*EDGES, rng.randint(0, 600))))
+        reference = any_residues(rng, rng.choice((*EDGES, rng.randint(0, 600))))
         cuts = sorted(rng.randint(0, len(reference)) for _ in range(rng.randint(0, 6)))
         yield from parts_of(rng, *(reference[i:j] for i, j in zip((0, *cuts), (*cuts, len(reference)))))
     for _ in range(5000):
-        reference = letters(rng, rng.choice((rng.choice(EDGES), rng.randint(0, 600))))
+        reference = any_residues(rng, rng.choice((rng.choice(EDGES), rng.randint(0, 600))))
         if reference and rng.random() < 0.3:
             reference = spoiled(rng, reference)
         cuts = sorted(rng.randint(0, len(reference)) for _ in range(2))
@@ -93,7 +93,7 @@ def every_fill(rng):
         near = {edge - fill + offset for edge in (0, 128, 256) for offset in range(-2, 3)}
         for length in sorted(length for length in {0, 1, 2, 127, 128, 129, *near} if length >= 0):
             for total in (fill, fill + 128 * rng.randint(0, LIMIT // 128 - 4)):
-                yield feed_case(any_state(rng, total), letters(rng, length))
+                yield feed_case(any_state(rng, total), any_residues(rng, length))
         for blocks in (0, 1, rng.randint(2, LIMIT // 128 - 1), LIMIT // 128 - 1):
             yield finish_case(any_state(rng, fill + 128 * blocks), rng.randbytes(45), 2)
 
@@ -101,15 +101,15 @@ def every_fill(rng):
 def every_byte(rng):
     """Every byte value, at the offsets where a loop begins, turns and ends."""
     for byte, offset in product(range(256), (0, 1, 7, 8, 15, 16, 31, 32, 63, 64, 99)):
-        yield feed_case(any_state(rng, rng.randint(0, 20)), with_byte(letters(rng, 100), offset, byte))
-    for byte, offset in product((0x40, 0x41, 0x5A, 0x5B), (100, 127, 128, 129, 255, 256, 1023, 1024, 1499)):
-        yield feed_case(any_state(rng, rng.randint(0, 300)), with_byte(letters(rng, 1500), offset, byte))
+        yield feed_case(any_state(rng, rng.randint(0, 20)), with_byte(any_residues(rng, 100), offset, byte))
+    for byte, offset in product(b"*-AZ" + FOREIGN, (100, 127, 128, 129, 255, 256, 1023, 1024, 1499)):
+        yield feed_case(any_state(rng, rng.randint(0, 300)), with_byte(any_residues(rng, 1500), offset, byte))
 
 
 def totals(rng):
     """Totals at the limit and over it, each with parts that fit, narrowly do not, or are foreign."""
     for total, length in product((0, 5, *TOTALS), (0, 1, 2, 3, 4, 5, 6, 100, 130)):
-        part = letters(rng, length)
+        part = any_residues(rng, length)
         yield feed_case(any_state(rng, total), part)
         if part:
             yield feed_case(any_state(rng, total), spoiled(rng, part))
@@ -146,7 +146,7 @@ def at_random(rng):
     """All of it at once, on any state."""
     for _ in range(12_000):
         total = rng.choice((rng.randint(0, 700), rng.randint(0, LIMIT), LIMIT + rng.randint(-700, 70), extreme(rng)))
-        part = letters(rng, rng.choice((0, rng.randint(0, 30), rng.randint(0, 300), rng.choice(EDGES))))
+        part = any_residues(rng, rng.choice((0, rng.randint(0, 30), rng.randint(0, 300), rng.choice(EDGES))))
         if part and rng.random() < 0.3:
             part = spoiled(rng, part)
         yield feed_case(any_state(rng, total), part)

@@ -65,7 +65,7 @@ def main():
     rng = random.Random(SEED)
     generated = (alleles.any_allele(rng) for _ in range(GENERATED))
     tried = 0
-    for allele in chain(alleles.every_small(), alleles.long_rolls(), generated):
+    for allele in chain(alleles.every_small(), alleles.every_small(4, b"A*-", 2), alleles.long_rolls(), generated):
         steps, lengths = trim_and_roll(*allele), form(*allele)
         if steps != lengths:
             print(f"DISAGREEMENT at {allele}\n  by steps    {steps}\n  by lengths  {lengths}")

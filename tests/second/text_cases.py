@@ -6,7 +6,7 @@ import alleles
 import model
 import published
 import texts
-from arguments import (FAR_POSITIONS, every_foreign, every_interval, far, foreign_units, letters, marred,
+from arguments import (FAR_POSITIONS, any_residues, every_foreign, every_interval, far, foreign_units, marred,
                        room_and_place, some_extreme, with_byte)
 from exchange import Case, Untouched
 from shapes import shape
@@ -170,7 +170,7 @@ def published_alleles(rng, call):
 
 def long_alleles(rng, call):
     """Long replacements, long rolls, and the longest reference."""
-    most = letters(rng, model.REPLACEMENT_LIMIT)
+    most = any_residues(rng, model.REPLACEMENT_LIMIT)
     for reference, replacement in ((b"", most), (b"", most + b"A"), (b"ACGT", with_byte(most, len(most) - 1, 0x5B))):
         yield call.placed(rng, reference, 0, len(reference), replacement, some_digest(rng))
     for run in (99_999, 100_000):
@@ -178,14 +178,14 @@ def long_alleles(rng, call):
         yield call.placed(rng, b"A" * run + b"x", run // 3, run // 3 + 1, b"", some_digest(rng))
     longest, n = Untouched(LIMIT), LIMIT
     for start, end in ((0, 0), (0, 1), (5, 7), (n - 1, n), (n, n), (0, n)):
-        for replacement in (b"A", b"CAG"):
+        for replacement in (b"A", b"CAG", b"*-"):
             yield from as_given(rng, call, longest, start, end, replacement)
     for start, end in ((0, 0), (n, n), (0, n)):
         yield from as_given(rng, call, longest, start, end, b"")
 
 
 def allele_cases(call, rng):
-    every = alleles.every_small(6), alleles.every_small(4, b"ACG", 2), every_foreign(4), every_interval()
+    every = alleles.every_small(6), alleles.every_small(4, b"A*-", 2), every_foreign(4), every_interval()
     for allele in chain(*every, alleles.long_rolls(), alleles.long_moves(), foreign_units()):
         yield call.placed(rng, *allele, some_digest(rng))
     for _ in range(8000):

@@ -13,7 +13,7 @@ RESIDUES_LIMIT = 1_001_000_000
 
 DECIMAL = rb"(0|[1-9][0-9]{0,9})"
 DIGEST = rb"([A-Za-z0-9_-]{32})"
-RESIDUES = rb"([A-Z]*)"
+RESIDUES = rb"([%s]*)" % re.escape(model.RESIDUES)
 LOCATIONS = re.compile(re.escape(LOCATION) % (DECIMAL, DECIMAL, DIGEST))
 ALLELES = re.compile(re.escape(ALLELE) % (DIGEST, RESIDUES))
 
@@ -121,8 +121,8 @@ def completed(accepted, specimen, fixed, more, prefix):
     return any(accepted(prefix + specimen[i:]) for i in ends)
 
 
-# Each specimen has the least in its holes: 0, no letter, any digest. So where a prefix can be completed
-# at all, one of its ends does it: a number or the letters may end where they stand, and a digest may go
+# Each specimen has the least in its holes: 0, no residue, any digest. So where a prefix can be completed
+# at all, one of its ends does it: a number or the residues may end where they stand, and a digest may go
 # on with any character.
 SOME_LOCATION, SOME_ALLELE = location(0, 0, b"A" * 32), allele(b"A" * 32, b"")
 BEFORE_END, BEFORE_RESIDUES = SOME_LOCATION.index(b"0"), SOME_ALLELE.index(b'","type":"SequenceState"')

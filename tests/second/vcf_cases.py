@@ -1,11 +1,11 @@
 """Calls on VCF lines: what may stand in each column, each refusal, and their order."""
-from itertools import chain, product
+from itertools import chain, combinations, product
 from pathlib import Path
 
 import alleles
 import model
 from alleles import STEPS
-from arguments import FOREIGN, extreme, far, letter_lost, letters, spoiled, with_byte
+from arguments import FOREIGN, extreme, far, letters, residue_lost, spoiled, with_byte
 from exchange import Case, Untouched
 from vcf_calls import count, every_call, form, form_case, line, needed, placed
 from vcf_files import data
@@ -38,7 +38,7 @@ NO_LETTERS = (
     b"", b".", b"*", b"-", b"<DEL>", b"<*>", b"<NON_REF>", b"<INS:ME:ALU>", b"<A>", b"G[2:421681[", b"[2:321682[G",
     b"G.", b".G", b"TCC.", b".TGCA", b"*G", b"G*", b"**", b"A-", b"-A", b"A ", b" A", b"A\r", b"\r", b"A\n", b"\nA",
     b"A\nC", b"A\x00", b"\x00", b"A1", b"1", b"A;C", b"A/C", b"A|C", b"@", b"[", b"`", b"{", b"A@", b"A[", b"a`",
-    b"a{", b"\xc1", b"\xe1", "\u00c4".encode(), "\uff21".encode(),
+    b"a{", b"--", b"-*", b"+", b"A+", b")A", b"\xc1", b"\xe1", "\u00c4".encode(), "\uff21".encode(),
 )
 NO_LETTER = b"@[`{*.-< \r\x00\xc1\xff"
 ALTERNATES = (b"A", b"g", b"Gt", b"ACGTACGT", b"N", b"z", b"G")
@@ -117,7 +117,7 @@ def positions(rng):
 
 def references(rng):
     """Every REF that agrees with a short reference up to its end or past it, the same with another letter at each
-    offset, and the reference in lower case or with a foreign byte there."""
+    offset, and the reference in lower case, with a stop, a gap or a foreign byte there."""
     reference = b"ACGTA"
     for start in range(len(reference)):
         for length in range(len(reference) + 3):
@@ -131,20 +131,32 @@ def references(rng):
                 yield placed(rng, with_byte(reference, offset, byte), line(start + 1, cased(rng, ref), b"C"), 1)
 
 
+def on_stops(rng):
+    """Every REF on a reference with stops and gaps, as it stands there or with letters in their place, and alternates
+    beside them."""
+    reference = b"*AAC-*CA--A*"
+    for start, end in combinations(range(len(reference) + 1), 2):
+        ref = reference[start:end]
+        for some in (ref, ref.replace(b"*", b"A").replace(b"-", b"A")):
+            yield from every_call(rng, reference, line(start + 1, some, b"a,*,AA,-,C,A*,-A," + ref))
+
+
 def edges_within(length):
     """Offsets in a text of this length at which a loop begins, turns and ends."""
     return sorted({0, length // 2, length - 1} | {edge for edge in STEPS if edge < length})
 
 
 def long_references(rng):
-    """REF of many letters, up to the reference's end, in which one is another, no letter or one too many."""
+    """REF of many letters, up to the reference's end, in which one is another, no letter, one too many, or laid over a
+    stop or a gap."""
     for length in (*STEPS, 100_000):
-        reference = b"TA" + letters(rng, length)
+        reference = b"-*" + letters(rng, length)
         ref = reference[2:]
         for offset in edges_within(length):
             for byte in (0x41 + (ref[offset] - 0x40) % 26, rng.choice(NO_LETTER)):
                 text = line(3, with_byte(cased(rng, ref), offset, byte), b"A")
                 yield rng.choice((count(reference, text), placed(rng, reference, text, 1)))
+            yield count(with_byte(reference, 2 + offset, rng.choice(b"*-")), line(3, cased(rng, ref), b"A"))
         for some in (ref, ref.lower(), ref + b"A", ref[:-1]):
             for alt in (b"A", some[:-1] or b"C", some + b"A", some):
                 yield placed(rng, reference, line(3, some, alt), 1)
@@ -176,7 +188,7 @@ def every_room(rng):
 
 def every_byte(rng):
     """Every byte in the place of each byte of a short line, and between them."""
-    reference, text = b"ACAGT", b"c\t2\t.\tCa\tGt,T\tq"
+    reference, text = b"*CA-T", b"c\t2\t.\tCa\tGt,T\tq"
     for offset, byte in product(range(len(text) + 1), range(256)):
         for other in (with_byte(text, offset, byte), text[:offset] + bytes([byte]) + text[offset:]):
             yield count(reference, other)
@@ -250,7 +262,7 @@ def lines_of(rng, some):
             continue
         text, place = some_line(rng, reference, *given)
         if rng.random() < 0.2:
-            reference = rng.choice((spoiled, letter_lost))(rng, reference)
+            reference = rng.choice((spoiled, residue_lost))(rng, reference)
         if rng.random() < 0.1:
             yield count(reference, text)
         yield placed(rng, reference, text, place)
@@ -280,9 +292,10 @@ def extreme_numbers(rng):
 
 
 def vcf_cases(rng):
-    for cases in (files, alternates, many_places, columns, positions, references, long_references, long_columns,
-                  every_room, every_byte, orders, breakends, long_alternates, long_lines, garbage, extreme_numbers):
+    for cases in (files, alternates, many_places, columns, positions, references, on_stops, long_references,
+                  long_columns, every_room, every_byte, orders, breakends, long_alternates, long_lines, garbage,
+                  extreme_numbers):
         yield from cases(rng)
-    small = alleles.every_small(5, most=2), alleles.every_small(3, b"ACG", 2)
+    small = alleles.every_small(5, most=2), alleles.every_small(3, b"ACG", 2), alleles.every_small(3, b"AC*", 2)
     long = alleles.long_rolls(), alleles.long_moves()
-    yield from lines_of(rng, chain(*small, *long, (alleles.any_allele(rng) for _ in range(12_000))))
+    yield from lines_of(rng, chain(*small, *long, (alleles.any_allele(rng) for _ in range(15_000))))

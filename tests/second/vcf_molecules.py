@@ -4,23 +4,31 @@ more of the reference, several alternates over one REF, in lower case or upper.
 All lines that make one molecule have to give one normal form, and lines that make two have to give two.
 """
 from collections import defaultdict
+from functools import lru_cache
 
 import alleles
 import model
+import vcf
 from exchange import Disagreement
 from vcf_calls import count, form, line
 
-REFERENCES = b"TCAGCAGCAGT", b"AAAAAAAAAA", b"GATTACAGATTACATTT", b"ACACACACGTGTGTGT", b"CTCTTTCTCTTTGAG"
+REFERENCES = (b"TCAGCAGCAGT", b"AAAAAAAAAA", b"GATTACAGATTACATTT", b"ACACACACGTGTGTGT", b"CTCTTTCTCTTTGAG",
+              b"*CAGCAGCAG-AAAA*", b"-ACACAC--GTGTGT*")
 LINES = 10_000
 
 
+def lettered(text):
+    return vcf.LETTERS.fullmatch(text) is not None
+
+
+@lru_cache  # often asked again
 def ways(reference, made):
-    """Every interval of the reference, with a residue in it and one in its place, outside of which nothing changes:
+    """Every interval of the reference, with letters in it and letters in its place, outside of which nothing changes:
     each way to write this altered sequence in VCF, the shortest first."""
     n, m = len(reference), len(made)
     found = [(start, end) for start in range(model.common_prefix(reference, made) + 1)
              for end in range(n - model.common_suffix(reference, made), n + 1)
-             if start < end and start < end + m - n]
+             if lettered(reference[start:end]) and lettered(made[start:max(start, end + m - n)])]
     return sorted(found, key=lambda interval: interval[1] - interval[0])
 
 

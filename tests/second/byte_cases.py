@@ -1,0 +1,71 @@
+"""Calls with every byte value among residues, in each slice that has to be of them: at its first place, in its middle, at
+its last and around the ends of blocks of 1,024. A residue is taken; another byte is refused under the slice's own number.
+"""
+from itertools import product
+
+import texts
+from arguments import FOREIGN, any_residues, with_byte
+from exchange import Disagreement
+from form_cases import normal_form
+from images import image_of
+from model import RESIDUES
+from read_cases import read_allele
+from register import ACTIVE, Record, Register
+from register_calls import check, entry, read_record, seal, undo, withdraw
+from running_cases import any_state, feed_case
+from sequence_cases import sequence_identifier
+from text_cases import ALLELE_IDENTIFIER, ALLELE_TEXT, some_digest
+
+BLOCK = 1024
+LONG = 2 * BLOCK + 2
+# A text's length, and an offset in it beside the end of a block.
+BESIDE_BLOCKS = ((BLOCK, BLOCK - 2), (BLOCK, BLOCK - 1), (LONG, BLOCK - 2), (LONG, BLOCK - 1), (LONG, BLOCK),
+                 (LONG, BLOCK + 1), (LONG, 2 * BLOCK - 1), (LONG, 2 * BLOCK))
+
+
+def among_residues(rng):
+    """A byte's offset, and the text of residues that has it there."""
+    for byte, length in product(range(256), (1, 9, LONG)):
+        for offset in sorted({0, length // 2, length - 1}):
+            yield offset, with_byte(any_residues(rng, length), offset, byte)
+    for byte, (length, offset) in product(RESIDUES + FOREIGN, BESIDE_BLOCKS):
+        yield offset, with_byte(any_residues(rng, length), offset, byte)
+
+
+def as_sequence(rng, text):
+    """The text as a whole reference, as a part of one, and as a replacement in a text that is read."""
+    yield 4, sequence_identifier(text, rng.randbytes(41), 0)
+    yield 4, feed_case(any_state(rng, rng.randint(0, 300)), text)
+    yield 8, read_allele(texts.allele(some_digest(rng), text))
+
+
+def as_replacement(rng, text):
+    """The text as the replacement that is given, and as the normal one, where it goes once from a reference that has it
+    twice."""
+    digest = some_digest(rng)
+    for refusal, allele in ((4, (b"", 0, 0, text)), (5, (text * 2, 0, len(text), b""))):
+        yield refusal, normal_form(*allele, rng.randbytes(len(text)), 0)
+        yield refusal, ALLELE_TEXT.case(*allele, digest, rng.randbytes(len(text) + 200), 0)
+        yield refusal, ALLELE_IDENTIFIER.case(*allele, digest, rng.randbytes(41), 0)
+        image = image_of(rng, Register(1, 1, len(text), len(allele[0]), digest))
+        yield refusal, entry(image, digest, *allele)
+
+
+def as_pool(rng, text):
+    """The text as all that a pool has in use: the first record has its first residue, the third begins in its middle."""
+    digest, middle = some_digest(rng), len(text) // 2
+    parts = text[:1], text[1:middle], text[max(middle, 1):]
+    issued = tuple(Record(0, 1, part, ACTIVE) for part in parts)
+    image = image_of(rng, Register(4, 4, len(text) + 1, 3, digest, issued, (1,)), 1)
+    for case in (check(image), read_record(image, 3), withdraw(image, 1), undo(image), seal(image),
+                 entry(image, digest, b"AC*", 2, 3, b"")):
+        yield 10, case
+
+
+def byte_cases(rng):
+    for offset, text in among_residues(rng):
+        foreign = text[offset] not in RESIDUES
+        for refusal, case in (*as_sequence(rng, text), *as_replacement(rng, text), *as_pool(rng, text)):
+            if case.answer[0] != (refusal if foreign else 0):
+                raise Disagreement(f"{case.call} is to answer {case.answer} to the byte {text[offset]:#04x}")
+            yield case
