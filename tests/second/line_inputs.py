@@ -8,17 +8,20 @@ import sys
 import time
 
 import lines
+from model import RESIDUES
 
 SEED = 1
 RANDOM_INPUTS = 60
 
 ODD_FIELDS = (
-    b"", b".", b"..", b".A", b"A.", b"a", b"A", b"ACGT", b"0", b"00", b"01", b"1", b"+1", b"-1", b"1.0", b"0x1", b"1e3",
+    b"", b".", b"..", b".A", b"A.", b"a", b"A", b"ACGT", b"*", b"**", b"-", b"-*", b"*.", b".-", b"+", b",", b")",
+    b"0", b"00", b"01", b"1", b"+1", b"-1", b"1.0", b"0x1", b"1e3",
     b"9", b"10", b"18446744073709551615", b"18446744073709551616", b"18446744073709551620", b"20000000000000000000",
-    b"99999999999999999999", b"100000000000000000000", b"1" * 40, b"1" * 5000, b"A\r", b"\r", b"\t", b"1\t", b"\x00", b"\xa0", b"\xff", b"/", b":",
-    "\u00b2".encode(), "\uff11".encode(),
+    b"99999999999999999999", b"100000000000000000000", b"1" * 40, b"1" * 5000, b"A\r", b"\r", b"\t", b"1\t", b"\x00",
+    b"\xa0", b"\xff", b"/", b":", "\u00b2".encode(), "\uff11".encode(),
 )
-BYTES = b"ACGT" * 8 + b" .019\n\r\tax\x00\xff"
+FEW = b"ACGT*-"
+BYTES = FEW * 8 + b" .019\n\r\tax)+,\x00\xff"
 # The most bytes of an answer, with its line feed, where the input has the 65,536 bytes that are read.
 LONGEST_ANSWER = 65_558
 
@@ -37,14 +40,20 @@ def fixed():
     yield b"ACGT\r\n1 2 T\r\n4 5 .\n4 5 ."
     yield b"\n0 0 ACGT\n0 0 .\n0 1 A\n1 0 A"
     yield b"A C\n0 1 C\n1 2 .\n3 3 A"
+    yield b"MKTAY--IAK**\n3 4 *\n10 10 *\n12 12 *\n5 5 -\n6 7 .\n5 7 .\n0 0 -1\n4 4 -.\n4 4 *.\n4 4 .*\n2 -1 A\n* 2 A"
+    yield b"%s\n0 0 %s\n0 28 %s\n0 28 ." % (RESIDUES, RESIDUES, RESIDUES[::-1])
+    # Every byte as a replacement, and those beside residues, too, in a normal one.
+    yield b"ACGT\n" + b"\n".join(b"1 2 %c" % byte for byte in range(256))
+    for byte in b")*+,-.@AZ[":
+        yield b"T%c%cT\n1 2 .\n1 1 A" % (byte, byte)
     for length in range(65_531, 65_542):
         yield b"A" * length
         yield b"A" * (length - 4) + b"\n0 0"
     yield from longest_answers()
     yield from long_answers()
-    # Around the edge of what is read: a run of one letter takes all of the reference into the answer.
+    # Around the edge of what is read: a run of one residue takes all of the reference into the answer.
     for length in range(65_510, 65_537):
-        yield b"A" * length + b"\n0 0 A\n"
+        yield b"*" * length + b"\n0 0 *\n"
     # Cut within a line: in its replacement, its numbers, behind its line feed.
     for cut in range(1, 14):
         line = b"\n1 2 ACGTACGT\n3 4 T"
@@ -53,17 +62,17 @@ def fixed():
     yield b"ACGT\n" + b"1 2 T\n" * 12_000
 
 
-def filled(reference, start, end, letter):
+def filled(reference, start, end, residue):
     """The reference and one allele, whose replacement fills the input."""
     front = b"%s\n%d %d " % (reference, start, end)
-    return front + letter * (lines.MOST_READ - len(front))
+    return front + residue * (lines.MOST_READ - len(front))
 
 
 def longest_answers():
-    """One letter or more, put in at the front of a run of that letter: all of the run comes into the answer.
+    """One residue or more, put in at the front of a run of that residue: all of the run comes into the answer.
 
     This has 22 bytes more than the input, and none has more. An answer has 8 separators where the input has 3, and an
-    indel's kind has 5 letters. Its replacement has the letters of the reference and of the replacement given, less one
+    indel's kind has 5 letters. Its replacement has the residues of the reference and of the replacement given, less one
     for each residue before the normal interval, behind it or in the given interval. So the start and the numbers of
     what shrank are best at one digit each: 3. left_widened is no more than the given start, and has no more digits.
     The end and right_widened have 5 digits at most and the given end has one at least: 9. A substitution has 20 more
@@ -72,6 +81,7 @@ def longest_answers():
     for residues in (65_530, 65_521, 32_768, 10_009):
         for position in (0, 9):
             yield filled(b"A" * residues, position, position, b"A")
+            yield filled(b"-" * residues, position, position, b"-")
 
 
 def long_answers():
@@ -99,21 +109,22 @@ def plain(rng, reference):
     start, end = sorted(rng.randint(0, len(reference) + 1) for _ in range(2))
     if rng.random() < 0.1:
         start, end = end, start
-    replacement = bytes(rng.choices(b"ACGT", k=rng.randint(0, 6)))
+    replacement = bytes(rng.choices(FEW, k=rng.randint(0, 6)))
     if rng.random() < 0.1:
         replacement += bytes(rng.choices(BYTES.replace(b"\n", b""), k=2))
     return b"%d %d %s" % (start, end, replacement or b".")
 
 
 def generated(rng):
-    unit = bytes(rng.choices(b"ACGT", k=rng.randint(1, 5)))
-    reference = unit * rng.randint(0, 12) + bytes(rng.choices(b"ACGT", k=rng.randint(0, 5)))
+    unit = bytes(rng.choices(FEW, k=rng.randint(1, 5)))
+    reference = unit * rng.randint(0, 12) + bytes(rng.choices(RESIDUES, k=rng.randint(0, 5)))
     if rng.random() < 0.3:
         place = rng.randint(0, len(reference))
-        reference = reference[:place] + bytes(rng.choices(b"axN\r. ", k=2)) + reference[place:]
+        reference = reference[:place] + bytes(rng.choices(b"axN\r.+ ", k=2)) + reference[place:]
     made = [reference]
     for _ in range(rng.randint(0, 80)):
-        made.append(rng.choice((plain(rng, reference), plain(rng, reference), odd(rng), bytes(rng.choices(BYTES.replace(b"\n", b""), k=rng.randint(0, 12))))))
+        any_bytes = bytes(rng.choices(BYTES.replace(b"\n", b""), k=rng.randint(0, 12)))
+        made.append(rng.choice((plain(rng, reference), plain(rng, reference), odd(rng), any_bytes)))
     return b"\n".join(made) + rng.choice((b"", b"\n", b"\n\n", b"\r\n"))
 
 
