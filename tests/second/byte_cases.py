@@ -1,10 +1,11 @@
-"""Calls with every byte value among residues, in each slice that has to be of them: at its first place, in its middle, at
-its last and around the ends of blocks of 1,024. A residue is taken; another byte is refused under the slice's own number.
+"""Calls with every byte value among residues, in each slice that has to be of them: at its first place, in its middle,
+at its last, and beside the ends of the blocks in which it may be tested. A residue is taken; any other byte is refused
+under the slice's own number.
 """
 from itertools import product
 
 import texts
-from arguments import FOREIGN, any_residues, with_byte
+from arguments import FOREIGN, any_residues, letters, with_byte
 from exchange import Disagreement
 from form_cases import normal_form
 from images import image_of
@@ -18,18 +19,18 @@ from text_cases import ALLELE_IDENTIFIER, ALLELE_TEXT, some_digest
 
 BLOCK = 1024
 LONG = 2 * BLOCK + 2
-# A text's length, and an offset in it beside the end of a block.
-BESIDE_BLOCKS = ((BLOCK, BLOCK - 2), (BLOCK, BLOCK - 1), (LONG, BLOCK - 2), (LONG, BLOCK - 1), (LONG, BLOCK),
-                 (LONG, BLOCK + 1), (LONG, 2 * BLOCK - 1), (LONG, 2 * BLOCK))
+# A text's length, and an offset at its ends or beside the end of a block.
+EDGES = ((BLOCK, 0), (BLOCK, BLOCK - 1), (LONG, 0), (LONG, BLOCK - 2), (LONG, BLOCK - 1), (LONG, BLOCK),
+         (LONG, BLOCK + 1), (LONG, 2 * BLOCK - 1), (LONG, 2 * BLOCK), (LONG, LONG - 1))
 
 
 def among_residues(rng):
-    """A byte's offset, and the text of residues that has it there."""
-    for byte, length in product(range(256), (1, 9, LONG)):
+    """A byte's offset, and a text that has it there. Among letters alone a block may be tested in another way."""
+    for byte, (length, drawn) in product(range(256), ((1, letters), (9, any_residues), (LONG, letters))):
         for offset in sorted({0, length // 2, length - 1}):
-            yield offset, with_byte(any_residues(rng, length), offset, byte)
-    for byte, (length, offset) in product(RESIDUES + FOREIGN, BESIDE_BLOCKS):
-        yield offset, with_byte(any_residues(rng, length), offset, byte)
+            yield offset, with_byte(drawn(rng, length), offset, byte)
+    for byte, (length, offset), drawn in product(b"*-AZ" + FOREIGN, EDGES, (letters, any_residues)):
+        yield offset, with_byte(drawn(rng, length), offset, byte)
 
 
 def as_sequence(rng, text):
@@ -52,7 +53,7 @@ def as_replacement(rng, text):
 
 
 def as_pool(rng, text):
-    """The text as all that a pool has in use: the first record has its first residue, the third begins in its middle."""
+    """The text as all that a pool has in use: the first record has its first byte, the third begins in its middle."""
     digest, middle = some_digest(rng), len(text) // 2
     parts = text[:1], text[1:middle], text[max(middle, 1):]
     issued = tuple(Record(0, 1, part, ACTIVE) for part in parts)
