@@ -13,7 +13,8 @@ from register import ACTIVE, INACTIVE, Record, Register, laid
 REPEAT = b"TCAGCAGCAGT"
 CAG = b">chr1 a repeat\nTCAGCAGCAGT\n"
 OTHER = b">chr1\nTCAGCAGCAGA\n"
-FOREIGN = b">chr1\nTCAG-AGCAGT\n"
+FOREIGN = b">chr1\nTCAG+AGCAGT\n"
+PROTEIN = b">prot ends in a stop\nMKTAYIAKQR*\n"
 SMALL = "--records 4 --journal 6 --pool 40"
 GZIP = b"\x1f\x8b\x08\x00"
 LINE = b"chr1\t4\t.\tG\tGCAG,*,t\n"
@@ -72,6 +73,73 @@ def life():
     yield Scenario("a register from blank to sealed", {b"cag.fa": CAG}, [*script(LIFE), empty, empty])
 
 
+def allele_words(start, end, replacement):
+    """An allele in a command, as its last words: behind -- where its replacement would be read as an option."""
+    said = f"{start} {end} {replacement.decode() or '.'}"
+    return f"-- {said}" if replacement.startswith(b"-") and replacement != b"-" else said
+
+
+ON_PROTEIN = """
+    blank r.fv -r prot.fa --records 9 --journal 12 --pool 40
+    form -r prot.fa 3 4 * [--tsv]
+    enter r.fv -r prot.fa 3 4 *
+    withdraw r.fv 1
+    show r.fv 1 -r prot.fa [--tsv]
+    enter r.fv -r prot.fa 3 4 *
+    enter r.fv -r prot.fa 2 5 T*Y --tsv
+    enter r.fv -r prot.fa 10 11 Q
+    form -r prot.fa 10 10 * [--tsv]
+    enter r.fv -r prot.fa 10 10 *
+    enter r.fv -r prot.fa 11 11 * --tsv
+    identify -r prot.fa 11 11 * [--tsv]
+    enter r.fv -r prot.fa 10 11 *
+    enter r.fv -r prot.fa 10 11 .
+    enter r.fv -r prot.fa 7 8 -
+    form -r prot.fa 7 7 - [--tsv]
+    enter r.fv -r prot.fa -- 7 7 --
+    enter r.fv -r prot.fa 7 7 --
+    form -r prot.fa --tsv -- 7 7 --
+    enter -r prot.fa -- r.fv 7 8 -K
+    enter r.fv -r prot.fa 7 8 -K
+    identify -r prot.fa -- 7 8 -K
+    enter r.fv -r prot.fa -- 7 8 -k
+    enter r.fv -r prot.fa 3 4 +
+    list r.fv -r prot.fa [--tsv]
+    list r.fv [--tsv]
+    show r.fv 3 -r prot.fa [--tsv]
+    show r.fv 6 -r prot.fa
+    check r.fv
+    form -r aligned.fa 6 6 - [--tsv]
+    form -r aligned.fa 5 6 . [--tsv]
+    form -r aligned.fa -- 13 14 --
+    form -r aligned.fa 0 14 . [--tsv]
+    identify -r aligned.fa 14 14 * [--tsv]
+    form -r aligned.fa --vcf a.vcf [--tsv]
+    blank a.fv -r aligned.fa --records 9 --journal 12 --pool 40
+    enter a.fv -r aligned.fa --vcf a.vcf [--tsv]
+    list a.fv -r aligned.fa
+"""
+# Beside stops and gaps, over them, and with them in REF and ALT.
+ON_ALIGNED = b"""\
+chr1\t3\t.\tT\tTT,*,-,t
+chr1\t3\t.\tTA\tT
+chr1\t3\t.\tT*\tT
+chr1\t4\t.\t*\tT
+chr1\t4\t.\tT\tA
+chr1\t5\t.\ta\taa,a-,*a,-A
+chr1\t6\t.\t-\tA
+chr1\t6\t.\tA\tC
+chr1\t8\t.\tIA\tA
+chr1\t14\t.\t*\t*
+"""
+
+
+def protein():
+    """A stop gained, lost and put before the last one; gaps; a reference that has both, in lower case too."""
+    files = {b"prot.fa": PROTEIN, b"aligned.fa": b">chr1\nmkt*a-\n-IAK*qr*\n", b"a.vcf": ON_ALIGNED}
+    yield Scenario("stops and gaps", files, script(ON_PROTEIN))
+
+
 FORMS = """
     form -r cag.fa 4 4 CAG [--tsv]
     form -r cag.fa 1 5 CTGC [--tsv]
@@ -87,7 +155,7 @@ FORMS = """
     form -r cag.fa 004 0000000000000000000000004 CAG [--tsv]
     form -r foreign.fa 8 9 . [--tsv]
     form -r foreign.fa 9 9 A
-    form -r foreign.fa 8 10 -
+    form -r foreign.fa 8 10 +
     form -r foreign.fa 8 8 A
     form -r foreign.fa 0 11 A
     form -r bytes.fa 0 0 .
@@ -106,7 +174,7 @@ FORMS = """
 
 
 def forms():
-    files = {b"cag.fa": CAG, b"foreign.fa": b">x\nAAccNNxx--T\n", b"empty.fa": b">e\n",
+    files = {b"cag.fa": CAG, b"foreign.fa": b">x\nAAccNNxx++T\n", b"empty.fa": b">e\n",
              b"bytes.fa": b">x\n \x20\x21\x7e\x7f\x80\xff\0\x1fAC\n"}
     odd = [[*words("form -r cag.fa 4 4"), replacement] for replacement in (b"C\xffG", b"A B", b"A\n", b"")]
     yield Scenario("forms and identifiers", files, script(FORMS) + odd)
@@ -415,5 +483,5 @@ def bad_usage():
 
 
 def plain_scenarios():
-    for scenarios in (life, forms, full, capacities, orders, damaged, left_over, wide, anywhere, bad_usage):
+    for scenarios in (life, protein, forms, full, capacities, orders, damaged, left_over, wide, anywhere, bad_usage):
         yield from scenarios()

@@ -9,6 +9,7 @@ from collections import Counter
 
 import started
 from cases import plain_scenarios
+from command_line import ALLELE_WORDS, asked
 from drawings import drawing_scenarios
 from failures import failures
 from file_shapes import file_scenarios
@@ -34,9 +35,11 @@ WANTED = {
     "identify": {"2", "3", "4", FOREIGN_REFERENCE},
     "check": {"10"},
 }
-# What the first column, or the one behind ALT, says of an accepted allele.
-ANSWERS = {"enter": {"new", "again", "known"}, "enter --vcf": {"new", "again", "known"},
-           "form": {"unchanged", "substitution", "indel"}, "form --vcf": {"unchanged", "substitution", "indel"}}
+# What the first column, or the one behind ALT, says of an accepted allele, and what a replacement given has in it.
+GIVEN = {"a stop": b"*", "a gap": b"-"}
+ANSWERS = {"enter": {"new", "again", "known", *GIVEN}, "enter --vcf": {"new", "again", "known"},
+           "form": {"unchanged", "substitution", "indel", *GIVEN}, "form --vcf": {"unchanged", "substitution", "indel"},
+           "identify": set(GIVEN)}
 SAID = re.compile(rb"refused ([0-9]+): ([^\t\n]*)")
 ANSWERED = re.compile(rb"\b(new|again|known|unchanged|substitution|indel)[ \t]")
 
@@ -49,6 +52,12 @@ def kind(number, words):
     return FOREIGN_REFERENCE if number == "4" and "of the reference" in words else number
 
 
+def replacement_of(command):
+    """The replacement that a command gives, empty where it gives no allele."""
+    what = asked(command)
+    return what.allele()[-1] if len(what.words) >= ALLELE_WORDS else b""
+
+
 def outcomes(command, left):
     """What a run is counted as."""
     for number, words in SAID.findall(left.out + left.said):
@@ -56,6 +65,7 @@ def outcomes(command, left):
     yield from (found.decode() for found in ANSWERED.findall(left.out))
     if left.status == 0:
         yield "with tabs" if b"--tsv" in command else "for people"
+        yield from (what for what, residue in GIVEN.items() if residue in replacement_of(command))
     if left.status == 2:
         yield "status 2"
 

@@ -3,15 +3,15 @@ import random
 
 import alleles
 import model
-from cases import Scenario
-from picture import laid_out, layout, moves
+from cases import Scenario, allele_words
+from picture import laid_out, layout, moves, residues
 from started import words
 
 DISTANCES = (0, 0, 1, 2, 3, 5, 7, 8, 9, 10, 11, 13, 19, 20, 21, 22, 23, 24, 25, 30, 60)
 LONGEST_WORD = 100_000  # that the system takes, or nearly
 # What the pictures have to show somewhere.
 WANTED = {*(f"{runs} runs" for runs in (1, 2, 3, 4)), *(f"cut {side}" for side in ("before", "behind")), "whole",
-          *(f"near {near}" for near in range(3, 11)), "<", ">", "X", "."}
+          *(f"near {near}" for near in range(3, 11)), "<", ">", "X", ".", "a stop", "a gap"}
 
 
 def shrinking(rng, reference):
@@ -61,14 +61,11 @@ def seen(reference, start, end, replacement):
     laid = layout(points, n)
     found = {f"{len(laid.runs)} runs", *moves(laid, (start, end), (normal.start, normal.end)).values()}
     found |= {f"near {near}" for near in range(3, 11) if laid_out(points, n, near) == laid}
+    shown = residues(laid, reference)
+    found |= {what for what, residue in (("a stop", "*"), ("a gap", "-")) if residue in shown}
     found |= {"cut before"} if laid.cut_before else set()
     found |= {"cut behind"} if laid.cut_behind else set()
     return found | ({"whole"} if not laid.cut_before and not laid.cut_behind and len(laid.runs) == 1 else set())
-
-
-def allele_words(before, start, end, replacement):
-    """A command on an allele."""
-    return words(f"{before} {start} {end} {replacement.decode() or '.'}")
 
 
 def many_references(rng):
@@ -77,8 +74,8 @@ def many_references(rng):
     if missed:
         raise SystemExit(f"commands: FAILED: no picture shows {sorted(missed)}")
     text = b"".join(b">s%d\n%s\n" % (i, reference) for i, (reference, *_) in enumerate(tried))
-    yield Scenario("pictures", {b"many.fa": text}, [allele_words(f"form -r many.fa --name s{i}", *allele)
-                                                    for i, (_, *allele) in enumerate(tried)])
+    yield Scenario("pictures", {b"many.fa": text}, [
+        words(f"form -r many.fa --name s{i} {allele_words(*allele)}") for i, (_, *allele) in enumerate(tried)])
 
 
 def long_reference(rng):
@@ -93,8 +90,8 @@ def long_reference(rng):
     given += [(70_000, 1_000_000 + i, reference[70_000:80_000] + b"W" + reference[900_000:1_000_000 + i][-9000:])
               for i in range(5)]
     commands = [words("blank r.fv -r long.fa --pool 3000000")]
-    commands += [allele_words("form -r long.fa --name chr9", *allele) for allele in given]
-    commands += [allele_words("enter r.fv -r long.fa", *allele) for allele in given[:12]]
+    commands += [words(f"form -r long.fa --name chr9 {allele_words(*allele)}") for allele in given]
+    commands += [words(f"enter r.fv -r long.fa {allele_words(*allele)}") for allele in given[:12]]
     commands += [words(f"show r.fv {number} -r long.fa") for number in range(1, 12)]
     yield Scenario("a long reference", {b"long.fa": b">chr9 long\n" + reference + b"\n"},
                    [*commands, words("list r.fv -r long.fa")])

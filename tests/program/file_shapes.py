@@ -35,8 +35,9 @@ REFERENCES = {
     "no-residues": b">chr1\n>chr2\n>chr3\nACGT\n",
     "odd-name": b">chr\x01\xff1~!\nTCAGCAGCAGT\n",
     "mark-within": b">chr1>chr2\nTCAG>CAG\n",
-    "letters": b">chr1\nABCDEFGHIJKLMNOPQRSTUVWXYZabcdefghijklmnopqrstuvwxyz\n",
-    "beside-letters": b">chr1\nA@[`{Z\n",
+    "residues": b">chr1\nABCDEFGHIJKLMNOPQRSTUVWXYZabcdefghijklmnopqrstuvwxyz*-\n",
+    "beside-residues": b">chr1\nA@[`{)+,.Z\n",
+    "stops-and-gaps": b">chr1\n*tc-G--\n-\ncag*\n*\n",
 }
 
 
@@ -139,9 +140,12 @@ chr1\t4\t.\tGCAT\tA
 chr1\t4\t.\tg1\tA
 chr1\t4\t.\t\tA
 chr1\t4\t.\tG.\tA
+chr1\t4\t.\tG*\tA
+chr1\t4\t.\t-\tA
 chr1\t4\t\tG\t
 chr1\t4\t.\tG\t.
 chr1\t4\t.\tG\t*
+chr1\t4\t.\tG\tG*,-,T,-G
 chr1\t4\t.\tG\t<DEL>,<INS:ME>,GA
 chr1\t4\t.\tG\tG[2:421681[,]1:1]G,G.,.G
 chr1\t4\t.\tG\tA,,C
@@ -228,7 +232,7 @@ def batches():
     files = {b"cag.fa": CAG, b"a.vcf": HEADER + SITES, b"odd.fa": b">\xff\nTCAGCAGCAGT\n",
              b"odd.vcf": SITES.replace(b"chr1\t", b"\xff\t")}
     commands = script(ON_ODD_NAMES)
-    for every, room in product((1, 2, 3, 7, 49, 50, 51, 2**64 - 1), (SMALL, "--records 40 --journal 40 --pool 400")):
+    for every, room in product((1, 2, 3, 7, 46, 47, 48, 2**64 - 1), (SMALL, "--records 40 --journal 40 --pool 400")):
         commands += script(IN_BATCHES.replace("ROOM", room).replace("EVERY", str(every)))
     yield Scenario("batches", files, commands)
 

@@ -3,19 +3,17 @@ registers that are full.
 """
 import random
 
-from cases import Scenario
+from cases import Scenario, allele_words
 from images import small_allele, small_reference
+from model import RESIDUES
 from started import words
 
-UPPER = bytes(range(ord("A"), ord("Z") + 1))
 
-
-def allele_words(rng, reference):
+def some_allele_words(rng, reference):
     start, end, replacement = small_allele(rng, reference)
     if rng.random() < 0.1:
         start, end = rng.choice(((end + 1, end), (start, len(reference) + 1)))
-    replacement = replacement.decode() or "."
-    return f"{start} {end} {replacement if rng.random() > 0.05 else replacement + 'x'}"
+    return allele_words(start, end, replacement if rng.random() > 0.05 else replacement + b"x")
 
 
 def call_line(rng, reference):
@@ -41,15 +39,16 @@ def some_command(rng, reference):
                        (30, 8, 16, 8, 2, 4, 4, 3, 3, 1))[0]
     if kind == "calls":
         return entered_file(rng, reference, rng.randint(1, 6))
-    behind = {"enter": f" -r s.fa {allele_words(rng, reference)}", "withdraw": f" {number}", "show": f" {number}",
+    behind = {"enter": f" -r s.fa {some_allele_words(rng, reference)}", "withdraw": f" {number}", "show": f" {number}",
+              "form": f" -r s.fa {some_allele_words(rng, reference)}",
               "blank": " -r s.fa --force --records 3 --journal 4 --pool 9"}.get(kind, "")
-    line = f"form -r s.fa {allele_words(rng, reference)}" if kind == "form" else f"{kind} r.fv{behind}"
     on_reference = " -r s.fa" if kind in ("list", "show") and rng.random() < 0.5 else ""
-    return words(line + on_reference + rng.choice(("", " --tsv"))), b""
+    register = "" if kind == "form" else " r.fv"
+    return words(kind + on_reference + rng.choice(("", " --tsv")) + register + behind), b""
 
 
 def history(rng, length):
-    reference = small_reference(rng).translate(None, delete=bytes(set(range(256)) - set(UPPER)))
+    reference = small_reference(rng).translate(None, delete=bytes(set(range(256)) - set(RESIDUES)))
     room = f"--records {rng.randint(2, 8)} --journal {rng.randint(3, 12)} --pool {rng.randint(3, 30)}"
     commands = [words(f"blank r.fv -r s.fa {room}")]
     commands += [some_command(rng, reference) for _ in range(length)]
