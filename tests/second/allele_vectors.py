@@ -5,6 +5,8 @@ import texts
 from shown import moved, outcome, shown
 
 REPEAT = b"TCAGCAGCAGT"
+PROTEIN = b"MKTAYIAKQR*"
+GAPS = b"AC--GT"
 ACGT_DIGEST = model.digest(b"ACGT")
 LAST_U64 = 2**64 - 1
 
@@ -18,7 +20,7 @@ def normal_form_lines():
         (REPEAT, 1, 4, b"CAG", 2, 16), (REPEAT, 2, 2, b"", 2, 16), (b"", 0, 0, b"ACGT", 0, 16),
         (REPEAT, 0, 4, b"TCAGCAG", 2, 16), (REPEAT, 4, 11, b"CAGCAGCAGT", 2, 16),
         (REPEAT, 9, 4, b"A", 2, 16), (REPEAT, 4, 11, b"A", 2, 16), (REPEAT, 4, 12, b"A", 2, 16),
-        # positions, letters given, letters of the reference, rooms
+        # positions, bytes given, bytes of the reference, rooms
         (REPEAT, 12, 12, b"a", 2, 16), (REPEAT, LAST_U64, 11, b"A", 2, 16), (REPEAT, LAST_U64, LAST_U64, b"A", 2, 16),
         (b"", 0, 1, b"", 0, 16),
         (REPEAT, 4, 11, b"A[", 2, 16), (REPEAT, 4, 11, b"@A", 2, 16), (REPEAT, 5, 4, b"@A", 2, 16),
@@ -27,6 +29,20 @@ def normal_form_lines():
         (REPEAT, 4, 4, b"CAG", 4, 16), (REPEAT, 4, 4, b"CAG", 5, 16), (REPEAT, 4, 4, b"CAG", 0, 11),
         (REPEAT, 4, 4, b"CAG", LAST_U64, 16),
         (REPEAT, 0, 11, b"", 16, 16), (REPEAT, 0, 11, b"", 17, 16), (REPEAT, 0, 11, b"", 0, 0),
+        # stops and gaps: put in, taken out, alone, as ends
+        (PROTEIN, 8, 9, b"*", 2, 16), (PROTEIN, 10, 11, b"W", 2, 16), (PROTEIN, 10, 11, b"", 2, 16),
+        (PROTEIN, 10, 10, b"*", 2, 16), (PROTEIN, 11, 11, b"*", 2, 16), (PROTEIN, 8, 11, b"*", 2, 16),
+        (PROTEIN, 10, 11, b"*", 2, 16),
+        (GAPS, 3, 3, b"-", 0, 16), (GAPS, 2, 3, b"", 0, 16), (GAPS, 2, 4, b"", 0, 16),
+        (b"*", 0, 0, b"*", 0, 16), (b"*", 0, 1, b"-", 0, 16), (b"-", 1, 1, b"-", 0, 16), (b"-", 0, 1, b"*", 0, 16),
+        (b"*ACGT-", 2, 4, b"-T*", 0, 16), (b"-ACGT*", 2, 4, b"*T-", 0, 16),
+        (b"*ACGT-", 0, 0, b"*", 0, 16), (b"*ACGT-", 6, 6, b"-", 0, 16),
+        # the bytes beside the residues, given and of the reference
+        (PROTEIN, 8, 9, b"*)", 2, 16), (PROTEIN, 8, 9, b"*+", 2, 16), (PROTEIN, 8, 9, b"-,", 2, 16),
+        (PROTEIN, 8, 9, b"-.", 2, 16), (PROTEIN, 8, 9, b"*-@", 2, 16), (PROTEIN, 8, 9, b"-*[", 2, 16),
+        (b"T*)*)T", 1, 3, b"", 0, 16), (b"T*+*+T", 1, 3, b"", 0, 16), (b"T-,-,T", 1, 3, b"", 0, 16),
+        (b"T-.-.T", 1, 3, b"", 0, 16), (b"T*@*@T", 1, 3, b"", 0, 16), (b"T-[-[T", 1, 3, b"", 0, 16),
+        (b"T++T", 1, 2, b"", 0, 16), (b"T*-*-T", 1, 3, b"", 0, 16),
     ):
         given = f"{shown(reference)} {start} {end} {shown(replacement)} place {place} room {room}"
         refusal, value, kind, start, end, length, *far, out = model.normal_form(
@@ -71,11 +87,15 @@ def published_lines():
 
 
 def allele_lines():
-    # document 01's cases 1, 4 and 10
-    digest = model.digest(REPEAT)
-    for start, end, replacement in ((4, 4, b"CAG"), (2, 3, b"T"), (1, 4, b"CAG")):
-        arguments = REPEAT, start, end, replacement, digest
-        given = f"{shown(REPEAT)} {start} {end} {shown(replacement)} {shown(digest)}"
+    for reference, start, end, replacement in (
+        # document 01's cases 1, 4 and 10
+        (REPEAT, 4, 4, b"CAG"), (REPEAT, 2, 3, b"T"), (REPEAT, 1, 4, b"CAG"),
+        # a stop gained, a stop beside the last one, a gap among gaps
+        (PROTEIN, 8, 9, b"*"), (PROTEIN, 11, 11, b"*"), (GAPS, 3, 3, b"-"),
+    ):
+        digest = model.digest(reference)
+        arguments = reference, start, end, replacement, digest
+        given = f"{shown(reference)} {start} {end} {shown(replacement)} {shown(digest)}"
         *_, text = texts.serialized(*arguments)
         yield f"allele-text {given} {written(texts.allele_text, *arguments)} {allele_read(text)}"
         yield f"allele-identifier {given} {written(texts.allele_identifier, *arguments)}"
@@ -89,7 +109,11 @@ def read_lines():
     ):
         yield f"read-location {shown(text)} {location_read(text)}"
     allele = texts.allele(ACGT_DIGEST, b"CAG")
-    for text in (texts.allele(ACGT_DIGEST[:-1], b""), texts.allele(ACGT_DIGEST, b"CAg"), allele[:-1], allele + b"}"):
+    sequences = b"*CAG-", b"-CAG*", b"*", b"-", b")AG", b"*+", b"C,G", b"CA-."
+    for text in (
+        texts.allele(ACGT_DIGEST[:-1], b""), texts.allele(ACGT_DIGEST, b"CAg"), allele[:-1], allele + b"}",
+        *(texts.allele(ACGT_DIGEST, sequence) for sequence in sequences), allele.replace(b'"CAG"', b'"CAG"*'),
+    ):
         yield f"read-allele {shown(text)} {allele_read(text)}"
 
 

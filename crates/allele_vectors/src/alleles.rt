@@ -73,6 +73,11 @@ fn worked(start: u64, end: u64, replacement: &[u8]) {
     in_room(b"TCAGCAGCAGT", start, end, replacement, 2, 16);
 }
 
+// On a protein that ends in a stop, with room for every answer.
+fn protein(start: u64, end: u64, replacement: &[u8]) {
+    in_room(b"MKTAYIAKQR*", start, end, replacement, 2, 16);
+}
+
 // Cases 1 to 12, and two that widen on one side and shrink on the other.
 fn forms() {
     worked(4, 4, b"CAG");
@@ -125,9 +130,76 @@ fn rooms() {
     in_room(b"TCAGCAGCAGT", 0, 11, b"", 0, 0);
 }
 
+// A stop gained; the last one lost to a residue, and taken away; one put in on either side of it; a stop for the last
+// three residues, where only the two before it go; and a stop for itself.
+fn stops() {
+    protein(8, 9, b"*");
+    protein(10, 11, b"W");
+    protein(10, 11, b"");
+    protein(10, 10, b"*");
+    protein(11, 11, b"*");
+    protein(8, 11, b"*");
+    protein(10, 11, b"*");
+}
+
+// A gap put into a run of gaps, one taken out of it, and all of it taken out.
+fn gaps() {
+    in_room(b"AC--GT", 3, 3, b"-", 0, 16);
+    in_room(b"AC--GT", 2, 3, b"", 0, 16);
+    in_room(b"AC--GT", 2, 4, b"", 0, 16);
+}
+
+// A stop alone and a gap alone: one more of it, and the other for it.
+fn alone() {
+    in_room(b"*", 0, 0, b"*", 0, 16);
+    in_room(b"*", 0, 1, b"-", 0, 16);
+    in_room(b"-", 1, 1, b"-", 0, 16);
+    in_room(b"-", 0, 1, b"*", 0, 16);
+}
+
+// A stop and a gap at the ends of a reference, and of a replacement.
+fn ends() {
+    in_room(b"*ACGT-", 2, 4, b"-T*", 0, 16);
+    in_room(b"-ACGT*", 2, 4, b"*T-", 0, 16);
+    in_room(b"*ACGT-", 0, 0, b"*", 0, 16);
+    in_room(b"*ACGT-", 6, 6, b"-", 0, 16);
+}
+
+// The bytes right beside the residues, behind a stop or a gap.
+fn neighbours_given() {
+    protein(8, 9, b"*)");
+    protein(8, 9, b"*+");
+    protein(8, 9, b"-,");
+    protein(8, 9, b"-.");
+    protein(8, 9, b"*-@");
+    protein(8, 9, b"-*[");
+}
+
+// The same bytes in a reference, of which they come into the normal replacement. Residues may.
+fn neighbours_on_references() {
+    in_room(b"T*)*)T", 1, 3, b"", 0, 16);
+    in_room(b"T*+*+T", 1, 3, b"", 0, 16);
+    in_room(b"T-,-,T", 1, 3, b"", 0, 16);
+    in_room(b"T-.-.T", 1, 3, b"", 0, 16);
+    in_room(b"T*@*@T", 1, 3, b"", 0, 16);
+    in_room(b"T-[-[T", 1, 3, b"", 0, 16);
+    in_room(b"T++T", 1, 2, b"", 0, 16);
+    in_room(b"T*-*-T", 1, 3, b"", 0, 16);
+}
+
+fn stops_and_gaps() {
+    stops();
+    gaps();
+    alone();
+    ends();
+    neighbours_given();
+    neighbours_on_references();
+}
+
 pub fn lines() {
     forms();
     givens();
     foreign_references();
     rooms();
+    stops_and_gaps();
 }

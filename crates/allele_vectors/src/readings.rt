@@ -1,5 +1,6 @@
 // Texts read: what reading one answers, and texts that are refused, at each part.
 use printer::labelled;
+use printer::part;
 use printer::refused;
 use printer::shown;
 use printer::text;
@@ -7,6 +8,8 @@ use printer::two;
 use text_reader::AlleleRead;
 use text_reader::LocationParts;
 use text_reader::LocationRead;
+ghost use Prim.Native.Nat.{_≤_};
+ghost use lib.ListN.{length};
 
 fn location_parts(parts: LocationParts, digest: &[u8]) {
     labelled(b" read ", parts.start);
@@ -49,6 +52,21 @@ fn allele_line(s: &[u8]) {
     allele(s);
 }
 
+// An allele text with this sequence, residues or not.
+fn sequence_line(sequence: &[u8])
+    requires { ⌜ length (now sequence) ≤ 16 ⌝ }
+{
+    let mut space = [0u8; 160];
+    let count = text::write_allele(
+        &mut space,
+        b"aKF498dAxcJAqme6QYQ7EZ07-fiw8Kw2",
+        sequence,
+        b"",
+        b"",
+    );
+    allele_line(part(&space, 0, count as u64));
+}
+
 // Nothing; a text cut off; a digit after a first 0; an end over the limit; two starts above the end.
 fn numbers() {
     location_line(b"");
@@ -85,8 +103,29 @@ fn alleles() {
     );
 }
 
+// A stop and a gap at the ends of a sequence, and alone.
+fn stops_and_gaps() {
+    sequence_line(b"*CAG-");
+    sequence_line(b"-CAG*");
+    sequence_line(b"*");
+    sequence_line(b"-");
+}
+
+// The bytes right beside a stop and a gap; and a stop behind the sequence.
+fn neighbours() {
+    sequence_line(b")AG");
+    sequence_line(b"*+");
+    sequence_line(b"C,G");
+    sequence_line(b"CA-.");
+    allele_line(
+        b"{\"location\":\"aKF498dAxcJAqme6QYQ7EZ07-fiw8Kw2\",\"state\":{\"sequence\":\"CAG\"*,\"type\":\"SequenceState\"},\"type\":\"Allele\"}",
+    );
+}
+
 pub fn lines() {
     numbers();
     locations();
     alleles();
+    stops_and_gaps();
+    neighbours();
 }

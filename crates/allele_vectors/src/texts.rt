@@ -183,6 +183,17 @@ fn worked(start: u64, end: u64, replacement: &[u8]) {
     );
 }
 
+// On a protein that ends in a stop.
+fn protein(start: u64, end: u64, replacement: &[u8]) {
+    allele_lines(
+        b"MKTAYIAKQR*",
+        start,
+        end,
+        replacement,
+        b"Ks2I1vzJHEaa_cdLtFSYxWKc3rO1l8Af",
+    );
+}
+
 // rs7412 and rs429358 on chromosome 19, and one on chromosome 13.
 fn locations() {
     location_lines(44_908_821, 44_908_822, b"IIB53T8CNeJJdUqzn9V_JnRtQadwWCbl");
@@ -205,8 +216,16 @@ fn alleles() {
     worked(1, 4, b"CAG");
 }
 
+// A stop gained, one put in beside the last one, and a gap put into a run of gaps.
+fn stops_and_gaps() {
+    protein(8, 9, b"*");
+    protein(11, 11, b"*");
+    allele_lines(b"AC--GT", 3, 3, b"-", b"7LhR7N2B4jmmnlTP1hixQpnEvB1VYHJ0");
+}
+
 pub fn lines() {
     locations();
     laid_alleles();
     alleles();
+    stops_and_gaps();
 }
