@@ -43,6 +43,9 @@ def identifier_lines():
         (b"ACGT", 0, 41), (b"", 0, 41), (b"ACGT", 1, 42), (b"ACGT", 1, 41), (b"ACGT", 41, 41), (b"ACGT", 42, 41),
         (b"ACGT", LAST_U64, 41), (b"ACGT", 0, 40), (b"ACGT", 0, 0), (b"aCGT", 0, 0), (b"ACG@", 0, 41),
         (b"ACG[", 0, 41), (b"AZ", 0, 41), (b"A`Z", 5, 0),
+        # stops and gaps, and the bytes beside them
+        (b"MKTAYIAKQR*", 0, 41), (b"*", 0, 41), (b"-", 0, 41), (b"*ACGT-", 0, 41),
+        (b")ACG", 0, 41), (b"ACG+", 0, 41), (b"A,C", 0, 41), (b"ACG.", 0, 41),
     ):
         refusal, value, length, out = model.sequence_identifier(reference, bytes(room), place)
         text = out[place:place + length].decode("ascii")
@@ -53,6 +56,7 @@ def running_lines():
     for part, total in (
         (b"", 1_000_000_000), (b"A", 999_999_999), (b"AC", 999_999_999), (b"", 1_000_000_001), (b"A", 1_000_000_001),
         (b"A", LAST_U64), (b"ACgT", 0), (b"ACgT", 999_999_996), (b"ACgT", 999_999_997), (b"gA", 5),
+        (b"*-", 999_999_998), (b"*-", 999_999_999), (b"*-.", 5),
     ):
         yield f"part {shown(part)} total {total} " + outcome(*model.fed(total, part), "taken")
     for total, place, room in (
@@ -64,7 +68,11 @@ def running_lines():
 
 def parts_lines():
     # three parts one after another; one that is refused leaves no trace
-    for parts in ((b"AC", b"GT", b""), (b"", b"ACGT", b""), (b"ACGT", b"", b""), (b"A", b"C", b"GT"), (b"AC", b"xx", b"GT")):
+    for parts in (
+        (b"AC", b"GT", b""), (b"", b"ACGT", b""), (b"ACGT", b"", b""), (b"A", b"C", b"GT"), (b"AC", b"xx", b"GT"),
+        # cut between a stop and a gap, and the same whole
+        (b"AC*", b"-GT", b""), (b"AC*", b"-+", b"-GT"), (b"", b"AC*-GT", b""),
+    ):
         taken = b""
         for part in parts:
             if model.fed(len(taken), part) == model.ACCEPTED:

@@ -42,7 +42,20 @@ fn residues() {
     in_room(b"A`Z", 5, 0);
 }
 
+// A protein that ends in a stop; a stop alone, a gap alone, and both as ends; the bytes right beside them.
+fn stops_and_gaps() {
+    in_room(b"MKTAYIAKQR*", 0, 41);
+    in_room(b"*", 0, 41);
+    in_room(b"-", 0, 41);
+    in_room(b"*ACGT-", 0, 41);
+    in_room(b")ACG", 0, 41);
+    in_room(b"ACG+", 0, 41);
+    in_room(b"A,C", 0, 41);
+    in_room(b"ACG.", 0, 41);
+}
+
 pub fn lines() {
     rooms();
     residues();
+    stops_and_gaps();
 }

@@ -46,6 +46,9 @@ fn part_lines() {
     part_line(b"ACgT", 999_999_996);
     part_line(b"ACgT", 999_999_997);
     part_line(b"gA", 5);
+    part_line(b"*-", 999_999_998);
+    part_line(b"*-", 999_999_999);
+    part_line(b"*-.", 5);
 }
 
 fn finish_lines() {
@@ -92,8 +95,16 @@ fn three_parts_lines() {
     three_parts_line(b"AC", b"xx", b"GT");
 }
 
+// One sequence: cut between a stop and a gap, with a part refused there, and whole.
+fn cut_at_a_stop() {
+    three_parts_line(b"AC*", b"-GT", b"");
+    three_parts_line(b"AC*", b"-+", b"-GT");
+    three_parts_line(b"", b"AC*-GT", b"");
+}
+
 pub fn lines() {
     part_lines();
     finish_lines();
     three_parts_lines();
+    cut_at_a_stop();
 }
