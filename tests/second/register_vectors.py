@@ -1,6 +1,6 @@
 """Prints what the program `register_vectors` has to print: document 01's register with C = 2, J = 3, P = 15.
 
-A line for each call with its answer, then the buffer: 143 bytes that the image takes and 17 behind it, all of them
+A line for each call with its answer, then the buffer: the bytes that the image takes and some behind it, all of them
 0xAA before the first call, 16 to a line. At the end calls that only read it, a line each, and some once more after a
 byte of the image was changed.
 """
@@ -10,18 +10,23 @@ from arguments import with_byte
 from shown import moved, outcome, shown
 
 REPEAT = b"TCAGCAGCAGT"
-DIGEST = model.digest(REPEAT)
+UNWRITTEN = b"\xAA" * 160
 LINE = 16
 
 
-def blank(image):
-    refusal, value, image = register.blank(image, len(REPEAT), DIGEST, 2, 3, 15)
-    return f"blank {len(REPEAT)} {DIGEST.decode('ascii')} 2 3 15 " + outcome(refusal, value, "done"), image
-
-
-def entry(start, end, replacement):
+def blank(reference, records, journal, pool):
     def call(image):
-        refusal, value, found, number, *far, after = register.entry(image, DIGEST, REPEAT, start, end, replacement)
+        digest = model.digest(reference)
+        refusal, value, after = register.blank(image, len(reference), digest, records, journal, pool)
+        given = f"blank {len(reference)} {digest.decode('ascii')} {records} {journal} {pool} "
+        return given + outcome(refusal, value, "done"), after
+    return call
+
+
+def entry(reference, start, end, replacement):
+    def call(image):
+        refusal, value, found, number, *far, after = register.entry(
+            image, model.digest(reference), reference, start, end, replacement)
         given = f"entry {start} {end} {replacement.decode('ascii')} "
         return given + outcome(refusal, value, f"{register.FOUND.get(found)} {number}{moved(*far)}"), after
     return call
@@ -57,25 +62,6 @@ def record(number):
     return reading
 
 
-CALLS = (
-    blank,
-    entry(4, 4, b"CAG"),  # case 1: new
-    undo,
-    entry(2, 3, b"T"),  # case 4: new
-    entry(1, 2, b"CAGC"),  # case 2: again
-    entry(3, 5, b"TTT"),  # case 6: no record left
-    entry(1, 5, b"CTGC"),  # case 5: known
-    withdraw(1),
-    seal,
-    undo,  # nothing is left to undo
-)
-
-READINGS = record(1), record(2), record(0), record(3), check
-# The last letter in the pool, in lower case.
-CHANGED, OTHER = 140, 0x74
-REFUSED_READINGS = check, record(1)
-
-
 def left(line, image):
     """A call, and the buffer that it leaves."""
     print(line)
@@ -83,17 +69,44 @@ def left(line, image):
         print(image[at:at + LINE].hex())
 
 
-def main():
-    image = b"\xAA" * (register.Register(2, 3, 15, len(REPEAT), DIGEST).size() + 17)
-    for call in CALLS:
+def called(image, *calls):
+    """The image after the calls."""
+    for call in calls:
         line, image = call(image)
         left(line, image)
-    for reading in READINGS:
-        print(reading(image))
-    image = with_byte(image, CHANGED, OTHER)
-    left(f"byte {CHANGED} set to {OTHER}", image)
-    for reading in REFUSED_READINGS:
+    return image
+
+
+def read(image, *readings):
+    for reading in readings:
         print(reading(image))
 
 
-main()
+def changed(image, at, byte):
+    """The image with another byte, checked."""
+    image = with_byte(image, at, byte)
+    left(f"byte {at} set to {byte}", image)
+    read(image, check)
+    return image
+
+
+def worked():
+    image = called(
+        UNWRITTEN,
+        blank(REPEAT, 2, 3, 15),
+        entry(REPEAT, 4, 4, b"CAG"),  # case 1: new
+        undo,
+        entry(REPEAT, 2, 3, b"T"),  # case 4: new
+        entry(REPEAT, 1, 2, b"CAGC"),  # case 2: again
+        entry(REPEAT, 3, 5, b"TTT"),  # case 6: no record left
+        entry(REPEAT, 1, 5, b"CTGC"),  # case 5: known
+        withdraw(1),
+        seal,
+        undo,  # nothing is left to undo
+    )
+    read(image, record(1), record(2), record(0), record(3), check)
+    # the last letter in the pool, in lower case
+    read(changed(image, 140, 0x74), record(1))
+
+
+worked()

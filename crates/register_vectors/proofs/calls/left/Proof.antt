@@ -3,8 +3,8 @@ use Prim.Native.Nat.{_≤_, _-_, _/_}
 use mathlib.Core.Path.{_≡_}
 use lib.ListN.{length}
 use borrow.Author.Needs.{needs}
-use Rattle.register_vectors.proofs.left.Statement.{statement}
-use Rattle.register_vectors.proofs.left.Tie as tie
+use Rattle.register_vectors.proofs.calls.left.Statement.{statement}
+use Rattle.register_vectors.proofs.calls.left.Tie as tie
 
 abbrev Inv-loop : tie.InvT-loop
 Inv-loop image i₀ i-end i = (i-end ≡ length image / 16) × (i ≤ i-end)
