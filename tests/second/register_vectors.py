@@ -1,4 +1,4 @@
-"""Prints what the program `register_vectors` has to print: document 01's register with C = 2, J = 3, P = 15.
+"""Prints what the program `register_vectors` has to print: document 01's register, and one of a protein.
 
 A line for each call with its answer, then the buffer: the bytes that the image takes and some behind it, all of them
 0xAA before the first call, 16 to a line. At the end calls that only read it, a line each, and some once more after a
@@ -10,6 +10,7 @@ from arguments import with_byte
 from shown import moved, outcome, shown
 
 REPEAT = b"TCAGCAGCAGT"
+PROTEIN = b"MKTAYIAKQR*"
 UNWRITTEN = b"\xAA" * 160
 LINE = 16
 
@@ -56,8 +57,8 @@ def check(image):
 def record(number):
     def reading(image):
         refusal, value, start, end, status, offset, length = register.read_record(image, number)
-        letters = shown(image[offset:offset + length])
-        said = f"{register.STATUS[status]} {start} {end} at {offset} {length} {letters}"
+        residues = shown(image[offset:offset + length])
+        said = f"{register.STATUS[status]} {start} {end} at {offset} {length} {residues}"
         return f"record {number} " + outcome(refusal, value, said)
     return reading
 
@@ -109,4 +110,22 @@ def worked():
     read(changed(image, 140, 0x74), record(1))
 
 
+def protein():
+    image = called(
+        UNWRITTEN,
+        blank(PROTEIN, 2, 4, 4),
+        entry(PROTEIN, 8, 9, b"*"),  # a stop gained: new
+        withdraw(1),
+        entry(PROTEIN, 8, 9, b"*"),  # again
+        entry(PROTEIN, 7, 10, b"K*R"),  # the same: known
+        entry(PROTEIN, 3, 5, b"W-"),  # a gap: new
+    )
+    read(image, record(1), record(2), check)
+    # a byte beside the residues, then a gap, at the front and at the end of what is used of the pool
+    for at, byte in ((132, b"+"), (132, b"-"), (134, b"."), (134, b"-")):
+        image = changed(image, at, *byte)
+    read(image, record(1))
+
+
 worked()
+protein()
