@@ -22,9 +22,9 @@
  * A call with an `out` writes from out[place] on. The bytes before and after what it writes stay as they
  * were, and no zero byte is put at the end.
  *
- * A residue is a byte from A to Z, and every other byte is foreign. A digest is 32 base64url characters (A
- * to Z, a to z, 0 to 9, - and _): the first 24 bytes of a SHA-512, without padding. Positions are interbase:
- * 0 lies before the first residue of a reference, its length after the last.
+ * A residue is a byte from A to Z, * (a stop) or - (a gap), and every other byte is foreign. A digest is 32
+ * base64url characters (A to Z, a to z, 0 to 9, - and _): the first 24 bytes of a SHA-512, without padding.
+ * Positions are interbase: 0 lies before the first residue of a reference, its length after the last.
  */
 #ifndef FEARNAVULT_H
 #define FEARNAVULT_H
@@ -33,7 +33,7 @@
 #include <stdint.h>
 
 #define FV_VERSION_MAJOR 0
-#define FV_VERSION_MINOR 4
+#define FV_VERSION_MINOR 5
 #define FV_VERSION_PATCH 0
 
 /* The three as a text, with a full stop between them. */
@@ -249,6 +249,12 @@ typedef struct {
  * CAGCAGCAGCAG
  * With start 1, end 5 and the replacement `CTGC` it is { 0, 0, 1, 2, 3, 1, 0, 1, 0, 2 }, and `out` then holds
  * T
+ * With the protein `MKTAYIAKQR*`, start 3, end 4 and the replacement `*`, a stop gained, it is
+ * { 0, 0, 1, 3, 4, 1, 0, 0, 0, 0 }, and `out` then holds
+ * *
+ * With start 10 and end 10 the stop is rolled over the one that is there, { 0, 0, 2, 10, 11, 2, 0, 0, 1, 0 },
+ * and `out` then holds
+ * **
  */
 fv_form fv_normal_form(const uint8_t *reference, size_t reference_len, uint64_t start, uint64_t end,
                        const uint8_t *replacement, size_t replacement_len,
@@ -589,7 +595,7 @@ fv_record fv_read_record(const uint8_t *image, size_t image_len, uint64_t number
  * POS counts residues from 1. The allele of an alternate starts at position POS - 1, ends the length of
  * REF further on, and has the alternate for its replacement. Lower case in REF and ALT is read as upper
  * case, and what is written is upper case; the line stays as it is. The reference is not read so: a
- * lower-case letter there differs from every REF.
+ * lower-case letter there differs from every REF, and so does a stop or a gap, which are no letters in a line.
  *
  * From a line to a number: ask fv_vcf_count for the places, and fv_vcf_form for the form of each; then
  * lend its start, its end and the replacement that it wrote to fv_entry or fv_allele_identifier, as they
@@ -629,7 +635,7 @@ fv_counted fv_vcf_count(const uint8_t *reference, size_t reference_len, const ui
  * alternate that is REF again changes nothing, and is answered with kind 0.
  *
  * An alternate that is not all letters is refused, and the others of its line are answered: one that is
- * missing (`.` or `*`), symbolic (`<DEL>`), a breakend (`G[2:421681[`, `G.`) or empty.
+ * missing (`.` or `*`), symbolic (`<DEL>`), a breakend (`G[2:421681[`, `G.`), a gap (`-`) or empty.
  *
  * Accepted: { 0, 0, kind, start, end, length, left_widened, left_shrunk, right_widened, right_shrunk }.
  * Refused, in this order:

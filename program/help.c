@@ -24,10 +24,11 @@ static const char all[] =
     "\n"
     "An allele is START END REPLACEMENT: the residues between two positions, and what stands there instead. Positions\n"
     "lie between residues: 0 before the first, their number after the last. The replacement . is the empty one.\n"
+    "Residues are A to Z, * (a stop, which a shell wants in quotes) and - (a gap).\n"
     "\n"
     "-r, --reference FILE   FASTA; --name SEQ chooses one of several sequences\n"
     "--tsv                  cells in full, parted by tabs\n"
-    "--                     what follows is no option\n"
+    "--                     what follows is no option: before an allele whose replacement begins with a gap\n"
     "\n"
     "Status 0: accepted; 1: refused; 2: used wrongly, or a file can't be read or written.\n";
 
@@ -46,7 +47,7 @@ static const struct {
      "\n"
      "    fearnavult blank panel.fv -r panel.fa --name chr7\n"},
     {"enter",
-     "fearnavult enter REGISTER -r REF.fa [--name SEQ] START END REPLACEMENT [--tsv]\n"
+     "fearnavult enter REGISTER -r REF.fa [--name SEQ] [--tsv] [--] START END REPLACEMENT\n"
      "fearnavult enter REGISTER -r REF.fa [--name SEQ] --vcf CALLS.vcf|- [--every N] [--tsv]\n"
      "\n"
      "Enters an allele, or each alternate of each line of a VCF file (- is standard input), in its normal form.\n"
@@ -56,6 +57,7 @@ static const struct {
      "--every N   save after every N lines and print their rows then, not only at the end\n"
      "\n"
      "    fearnavult enter panel.fv -r panel.fa 4 4 CAG\n"
+     "    fearnavult enter protein.fv -r protein.fa 39 40 '*'\n"
      "    fearnavult enter panel.fv -r panel.fa --vcf calls.vcf\n"},
     {"withdraw",
      "fearnavult withdraw REGISTER NUMBER [--tsv]\n"
@@ -89,7 +91,7 @@ static const struct {
      "\n"
      "    fearnavult show panel.fv 3 -r panel.fa\n"},
     {"form",
-     "fearnavult form -r REF.fa [--name SEQ] START END REPLACEMENT [--tsv]\n"
+     "fearnavult form -r REF.fa [--name SEQ] [--tsv] [--] START END REPLACEMENT\n"
      "fearnavult form -r REF.fa [--name SEQ] --vcf CALLS.vcf|- [--tsv]\n"
      "\n"
      "Prints the normal form of an allele, with a picture, or of each alternate of each line of a VCF file (- is\n"
@@ -98,7 +100,7 @@ static const struct {
      "    fearnavult form -r panel.fa 4 4 CAG\n"
      "    fearnavult form -r panel.fa --vcf calls.vcf --tsv\n"},
     {"identify",
-     "fearnavult identify -r REF.fa [--name SEQ] START END REPLACEMENT [--tsv]\n"
+     "fearnavult identify -r REF.fa [--name SEQ] [--tsv] [--] START END REPLACEMENT\n"
      "\n"
      "Prints the GA4GH identifiers of the sequence, of the normal form's location, and of the allele.\n"
      "\n"

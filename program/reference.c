@@ -1,6 +1,6 @@
 /*
  * A sequence of a FASTA file, read in pieces: only the one that is chosen is kept, once, in upper case. Bytes that are
- * no letters are kept as they are, so that the library refuses them.
+ * no residues are kept as they are, so that the library refuses them.
  */
 #include "program.h"
 

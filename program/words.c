@@ -15,7 +15,7 @@
 static const char *words_of(uint64_t refusal, uint64_t value) {
     switch (refusal) {
     case FV_OVER_LIMIT:
-        return value == 0 ? "the reference has over 1000000000 residues" : "the replacement has over 1000000 letters";
+        return value == 0 ? "the reference has over 1000000000 residues" : "the replacement has over 1000000 residues";
     case FV_START_ABOVE_END: return "the start is above the end";
     case FV_END_PAST_REFERENCE: return "the end is past the reference, which has %" PRIu64 " residues";
     case FV_FOREIGN_INPUT: return "byte %" PRIu64 " of the replacement is no residue";

@@ -11,6 +11,7 @@
 
 #define TEXT(text) (const uint8_t *)(text), sizeof(text) - 1
 #define REPEAT "TCAGCAGCAGT"
+#define PROTEIN "MKTAYIAKQR*"
 #define DIGEST "zR7HujP8jYfpROv-hBLZMHuR_5P4Zo0q"
 #define LOCATION "{\"interval\":{\"end\":10,\"start\":1,\"type\":\"SimpleInterval\"}," \
                  "\"sequence_id\":\"" DIGEST "\",\"type\":\"SequenceLocation\"}"
@@ -77,6 +78,10 @@ static void forms(void) {
                                      (fv_form){0, 0, 2, 1, 10, 12, 3, 0, 6, 0}, "CAGCAGCAGCAG"));
     expect("fv_normal_form", form_is(fv_normal_form(TEXT(REPEAT), 1, 5, TEXT("CTGC"), out, 12, 0),
                                      (fv_form){0, 0, 1, 2, 3, 1, 0, 1, 0, 2}, "T"));
+    expect("fv_normal_form", form_is(fv_normal_form(TEXT(PROTEIN), 3, 4, TEXT("*"), out, 12, 0),
+                                     (fv_form){0, 0, 1, 3, 4, 1, 0, 0, 0, 0}, "*"));
+    expect("fv_normal_form", form_is(fv_normal_form(TEXT(PROTEIN), 10, 10, TEXT("*"), out, 12, 0),
+                                     (fv_form){0, 0, 2, 10, 11, 2, 0, 0, 1, 0}, "**"));
 }
 
 /* Slices that are only read may overlap: here the replacement is lent from the reference. */
