@@ -5,7 +5,7 @@
 /* SHA-512 of the message. */
 void plain_sha512(const uint8_t *message, size_t length, uint8_t digest[64]);
 
-/* The offset of the first byte that is not from A to Z, or the length. */
+/* The offset of the first byte that is no residue, or the length. */
 size_t plain_residues(const uint8_t *text, size_t length);
 
 /* The length of the longest common prefix, and suffix, of two texts of one length. */

@@ -3,6 +3,6 @@
 
 size_t plain_residues(const uint8_t *text, size_t length) {
     for (size_t i = 0; i < length; i++)
-        if (text[i] < 'A' || text[i] > 'Z') return i;
+        if ((text[i] < 'A' || text[i] > 'Z') && text[i] != '*' && text[i] != '-') return i;
     return length;
 }

@@ -97,6 +97,12 @@ static void test_image(void) {
         hold(fv_seal(image, image_length()).refusal == 0);
     }
 }
+static void test_with(uint8_t each_thousandth) {
+    for (size_t i = 0; i < POOL; i += 1000) pool()[i] = each_thousandth;
+    test_image();
+}
+static void test_letters(void) { test_with('A'); }
+static void test_stops(void) { test_with('*'); }
 static void enter_known(void) {
     for (int i = 0; i < CALLS; i++) reset(numbers, POOL, 1), enter(KNOWN);
 }
@@ -134,6 +140,9 @@ void register_lines(void) {
     calls_on("1,000 numbers, 10 MB of residues");
     lay_apart(10000);
     calls_on("10,000 numbers, 10 MB of residues");
+    row residues[] = {{"`fv_seal`, letters alone", test_letters, 0},
+                      {"`fv_seal`, a stop in each thousand", test_stops, 0}};
+    ours_last("10,000 numbers, 10 MB of residues", residues, COUNT(residues));
     lay_alike(10000);
     calls_on("10,000 numbers, alike but for their last residues");
 }
