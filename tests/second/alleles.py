@@ -7,7 +7,7 @@ from itertools import combinations_with_replacement, product
 from model import RESIDUES
 
 LETTERS = b"ACGT"
-# Few residues, of which much repeats, and all of them.
+# Few kinds of residues, so that much repeats, and all of them.
 ALPHABETS = b"A", b"AC", LETTERS, b"*", b"-", b"*-", b"AC*-", RESIDUES
 # A comparison may take 8 or more bytes at a step, and turn where a block of them ends.
 STEPS = (7, 8, 9, 15, 16, 17, 31, 32, 33, 63, 64, 65, 127, 128, 129, 1023, 1024, 1025, 2048)

@@ -41,14 +41,14 @@ def as_sequence(rng, text):
 
 
 def as_replacement(rng, text):
-    """The text as the replacement that is given, and as the normal one, where it goes once from a reference that has it
-    twice."""
-    digest = some_digest(rng)
-    for refusal, allele in ((4, (b"", 0, 0, text)), (5, (text * 2, 0, len(text), b""))):
-        yield refusal, normal_form(*allele, rng.randbytes(len(text)), 0)
-        yield refusal, ALLELE_TEXT.case(*allele, digest, rng.randbytes(len(text) + 200), 0)
+    """The text as the replacement that is given, and as the normal one: one of two goes from a reference, and the other
+    is rolled over, to the right or to the left."""
+    digest, length, two = some_digest(rng), len(text), text * 2
+    for refusal, allele in ((4, (b"", 0, 0, text)), (5, (two, 0, length, b"")), (5, (two, length, 2 * length, b""))):
+        yield refusal, normal_form(*allele, rng.randbytes(length), 0)
+        yield refusal, ALLELE_TEXT.case(*allele, digest, rng.randbytes(length + 200), 0)
         yield refusal, ALLELE_IDENTIFIER.case(*allele, digest, rng.randbytes(41), 0)
-        image = image_of(rng, Register(1, 1, len(text), len(allele[0]), digest))
+        image = image_of(rng, Register(1, 1, length, len(allele[0]), digest))
         yield refusal, entry(image, digest, *allele)
 
 

@@ -1,6 +1,6 @@
 """Calls at full size on memory that is filled: all residues, as many as there may be.
 
-Nothing here is compared residue by residue: what each call answers is known from its one residue, and digests are
+Nothing here is compared residue by residue: what each call answers is known from the one that repeats, and digests are
 hashlib's, over pieces.
 """
 from functools import lru_cache
@@ -19,7 +19,7 @@ LIMIT = model.REFERENCE_LIMIT
 RESIDUES_LIMIT = texts.RESIDUES_LIMIT
 LONGEST = Repeated(b"A", LIMIT - 1, b"-")
 FOREIGN_LAST = Repeated(b"A", LIMIT - 2, b"*", b"+")
-# As many stops as may be given, put into the longest reference, which is all stops, are rolled over all of it: the normal
+# As many stops as may be given, put into a reference of as many as there may be, are rolled over all of it: the normal
 # form is from 0 to its end, with RESIDUES_LIMIT stops.
 INSERTION = Repeated(b"*", LIMIT), LIMIT // 3, LIMIT // 3, b"*" * model.REPLACEMENT_LIMIT
 
