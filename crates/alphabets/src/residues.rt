@@ -9,6 +9,11 @@ ghost use Rattle.alphabets.specs.Alphabets.{letter, residue, foreign};
 // How many bytes are tested before one of them is looked for.
 const BLOCK: usize = 1024;
 
+// What all bytes of a stretch are asked to be.
+const LETTERS: bool = true;
+
+const RESIDUES: bool = false;
+
 pub fn is_letter(b: u8) -> bool
     ensures { λ r. ⌜ r ≡ letter b ⌝ }
 {
@@ -21,24 +26,24 @@ fn is_residue(b: u8) -> bool
     is_letter(b) | (b == b'*') | (b == b'-')
 }
 
-fn is_of(b: u8, plain: bool) -> bool
-    ensures { λ r. ⌜ r ≡ cond plain letter residue b ⌝ }
+fn is_of(b: u8, letters: bool) -> bool
+    ensures { λ r. ⌜ r ≡ cond letters letter residue b ⌝ }
 {
-    if plain {
+    if letters {
         return is_letter(b);
     }
     is_residue(b)
 }
 
-// Whether every byte is a residue or, where it is to be plain, a letter. It looks at all of them, without a
-// way out of the loop, so that the compiler can test many at a step.
-fn all_of(s: &[u8], plain: bool) -> bool
-    ensures { λ r. ⌜ r ≡ every (cond plain letter residue) (now (s .entry)) ⌝ }
+// Whether every byte is a letter, or a residue. It looks at all of them, without a way out of the loop, so
+// that the compiler can test many at a step.
+fn all_of(s: &[u8], letters: bool) -> bool
+    ensures { λ r. ⌜ r ≡ every (cond letters letter residue) (now (s .entry)) ⌝ }
 {
     let mut all = true;
     let mut i = 0;
     while i < s.len() {
-        all = all & is_of(s[i], plain);
+        all = all & is_of(s[i], letters);
         i += 1;
     }
     all
@@ -48,7 +53,7 @@ fn all_of(s: &[u8], plain: bool) -> bool
 fn all_residues(s: &[u8]) -> bool
     ensures { λ r. ⌜ r ≡ every residue (now (s .entry)) ⌝ }
 {
-    all_of(s, true) || all_of(s, false)
+    all_of(s, LETTERS) || all_of(s, RESIDUES)
 }
 
 // How many bytes lie in the blocks of residues that `s` begins with. What is left behind its last whole block
@@ -64,7 +69,7 @@ fn clean_blocks(s: &[u8]) -> usize
         }
         i += BLOCK;
     }
-    if all_of(&s[i..], true) {
+    if all_of(&s[i..], LETTERS) {
         return s.len();
     }
     i

@@ -12,12 +12,12 @@ use Rattle.alphabets.proofs.residues.all_of.Statement.{statement}
 use Rattle.alphabets.proofs.residues.all_of.Tie as tie
 
 abbrev Inv-loop : tie.InvT-loop
-Inv-loop s plain all₀ i₀ all i =
-    let class : ℕ → Bool = cond plain letter residue in
+Inv-loop s letters all₀ i₀ all i =
+    let class : ℕ → Bool = cond letters letter residue in
     (i ≤ length s) × (every class s ≡ cond all (every class (drop i s)) false)
 
 abbrev μ-loop : tie.MeasureT-loop
-μ-loop s plain all₀ i₀ all i = length s - i
+μ-loop s letters all₀ i₀ all i = length s - i
 
 loop-holds : tie.Need-loop-holds Inv-loop μ-loop
 loop-holds c = (omega arith, refl)
@@ -38,7 +38,7 @@ loop-again : tie.Need-loop-again Inv-loop μ-loop
 loop-again c =
     let l = c .before .before .before in
     let a = l .before .before .args in
-    let class : ℕ → Bool = cond (a .plain) letter residue in (
+    let class : ℕ → Bool = cond (a .letters) letter residue in (
       omega arith,
       l .loop .inv .1
           ∙ rw (c .is-of .ensures) (every-on class (a .s .now) (l .loop .i) (l .loop .all) (omega arith)),
@@ -49,7 +49,7 @@ returns c =
     let l = c .before in
     let a = l .before .before .args in
     sym (l .loop .inv .1
-    ∙ every-end (cond (a .plain) letter residue) (a .s .now) (l .loop .i) (l .loop .all) (omega arith))
+    ∙ every-end (cond (a .letters) letter residue) (a .s .now) (l .loop .i) (l .loop .all) (omega arith))
 
 pub all-of-spec : {M : Type 1} → statement M
 all-of-spec =
