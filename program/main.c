@@ -103,7 +103,8 @@ static int take_option(const command *c, options *o, const char *name, const cha
     size_t i = 0, count = sizeof known / sizeof *known;
     while (i < count && strcmp(name, known[i].name) != 0) i++;
     if (i == count || (known[i].part != 0 && !takes(c, known[i].part)))
-        misused(c, "no such option here: ", name);
+        misused(c, takes(c, ALLELE) ? "no such option here; a replacement that begins with - comes after --: "
+                                    : "no such option here: ", name);
     if (known[i].flag == NULL && value == NULL)
         misused(c, "no value after ", name);
     if (known[i].words != NULL)
