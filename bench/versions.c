@@ -24,7 +24,7 @@ static const version before = {before_fv_check, before_fv_normal_form, before_fv
                                before_fv_sequence_identifier};
 static const version now = {fv_check, fv_normal_form, fv_read_allele, fv_sequence_identifier};
 
-enum { MANY = 1000 * 1000, HALF = 32 << 20, NUMBERS = 10 * 1000, EACH = 1000, POOL = NUMBERS * EACH };
+enum { MANY = 1000 * 1000, HALF = 32 << 20, NUMBERS = 10, EACH = FV_REPLACEMENT_LIMIT, POOL = NUMBERS * EACH };
 static const char head_of_text[] = "{\"location\":\"zR7HujP8jYfpROv-hBLZMHuR_5P4Zo0q\",\"state\":{\"sequence\":\"";
 static const char tail_of_text[] = "\",\"type\":\"SequenceState\"},\"type\":\"Allele\"}";
 enum { HEAD = sizeof head_of_text - 1, TAIL = sizeof tail_of_text - 1 };
@@ -61,28 +61,33 @@ static void check(const version *v) {
     for (int i = 0; i < 40; i++) hold(v->check(image, sizeof image).refusal == 0);
 }
 
-static void put(uint8_t *at, uint64_t value) {
-    for (int i = 0; i < 4; i++) at[i] = (uint8_t)(value >> 8 * i);
+/* Insertions as long as they may be, one after another, which fill the pool. */
+static void enter_all(void) {
+    const uint8_t *digest = (const uint8_t *)head_of_text + 13;
+    hold(fv_blank(image, sizeof image, NUMBERS, digest, 32, NUMBERS, NUMBERS, POOL).refusal == 0);
+    for (uint64_t i = 0; i < NUMBERS; i++)
+        hold(fv_entry(image, sizeof image, digest, 32, (const uint8_t *)"XXXXXXXXXX", NUMBERS, i, i, twice + i * EACH,
+                      EACH).answer == FV_NEW);
 }
 
-/* Insertions at one place after another, which fill the pool. */
-static void lay_image(void) {
-    hold(fv_blank(image, sizeof image, NUMBERS, (const uint8_t *)head_of_text + 13, 32, NUMBERS, NUMBERS, POOL).refusal
-         == 0);
-    put(image + 8, NUMBERS), put(image + 32, POOL);
-    for (uint64_t i = 0; i < NUMBERS; i++) {
-        const uint64_t fields[] = {i, i, EACH * i, EACH, FV_ACTIVE};
-        for (size_t k = 0; k < 5; k++) put(image + 76 + 20 * i + 4 * k, fields[k]);
+/* The best of four times the usual turns, since the two are to differ by little. */
+static void compare(const char *what, row earlier, row ours) {
+    row best[] = {earlier, ours};
+    measure(best, COUNT(best));
+    for (int times = 1; times < 4; times++) {
+        row again[] = {earlier, ours};
+        measure(again, COUNT(again));
+        for (int i = 0; i < COUNT(best); i++)
+            if (again[i].best < best[i].best) best[i] = again[i];
     }
-    memcpy(image + sizeof image - POOL, twice, POOL);
+    line(what, &best[1], &best[0]);
 }
 
 #define LINE(what, calls) \
     static void calls##_before(void) { calls(&before); } \
     static void calls##_now(void) { calls(&now); } \
     static void calls##_line(void) { \
-        row rows[] = {{"the earlier library", calls##_before, 0}, {"this one", calls##_now, 0}}; \
-        ours_last(what, rows, COUNT(rows)); \
+        compare(what, (row){"the earlier library", calls##_before, 0}, (row){"this one", calls##_now, 0}); \
     }
 LINE("a million substitutions of one residue", substitution)
 LINE("a million insertions into a repeat", insertion)
@@ -91,13 +96,13 @@ LINE("200 replacements of 1,000,000 residues", longest_replacement)
 LINE("roll to the right over 32 MB, and residues", roll)
 LINE("identifier of 32 MB", identifier)
 LINE("40 texts of 10 MB read", read)
-LINE("40 checks of 10,000 numbers, 10 MB of residues", check)
+LINE("40 checks of 10 numbers, 10 MB of residues", check)
 
 int main(void) {
     fill(twice, HALF);
     memcpy(twice + HALF, twice, HALF);
     memcpy(text, head_of_text, HEAD), memcpy(text + HEAD, twice, POOL), memcpy(text + HEAD + POOL, tail_of_text, TAIL);
-    lay_image();
+    enter_all();
     head();
     substitution_line(), insertion_line(), replacement_of_300_line(), longest_replacement_line();
     roll_line(), identifier_line(), read_line(), check_line();
