@@ -2,13 +2,15 @@
 // Those of a location are in crate `location_identifier`, below it.
 //
 // specs/Identifier.antt has the text and the identifier, specs/Calls.antt what the calls promise.
+#![tactic(auto)]
+
 mod allele;
 mod hash;
 
 pub use allele::{allele_identifier, allele_text};
 
 // The answer of an allele's identifier: the count of bytes written, and how far the normal form moved.
-#[derive(Drop)]
+#[derive(Clone, Copy)]
 pub enum Identified {
     Bytes(u64, moved::Moved),
     Refused(refusal::Refusal),

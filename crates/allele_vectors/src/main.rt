@@ -1,5 +1,7 @@
 // Prints test vectors of alleles, a line each. They have to be those of the file stdout, which a second
 // program makes, tests/second/allele_vectors.py.
+#![tactic(auto)]
+
 mod alleles;
 mod readings;
 mod texts;

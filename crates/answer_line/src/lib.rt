@@ -2,6 +2,8 @@
 // Crate `lines` goes from line to line.
 //
 // specs/Answers.antt has what is printed for a line.
+#![tactic(auto)]
+
 mod reply;
 mod write;
 

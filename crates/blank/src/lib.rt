@@ -2,6 +2,8 @@
 // and `register`.
 //
 // specs/Calls.antt has what the call promises.
+#![tactic(auto)]
+
 mod header;
 
 pub use header::blank;

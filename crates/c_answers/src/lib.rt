@@ -1,6 +1,8 @@
 // The answers of the calls as C reads them. Crate `fearnavult` exports the calls with these.
 //
 // specs/Flat.antt has the flattening, and what every export of the C library promises.
+#![tactic(auto)]
+
 mod numbered;
 mod read;
 mod written;
@@ -12,7 +14,7 @@ pub use written::{flat_form, flat_identified, flat_written};
 // What a call that writes answers: document 01's number of the refusal and its value, and the count
 // of bytes written. Each is 0 where it doesn't apply.
 #[repr(C)]
-#[derive(Drop)]
+#[derive(Clone, Copy)]
 pub struct FvWritten {
     pub refusal: u64,
     pub value: u64,
@@ -23,7 +25,7 @@ pub struct FvWritten {
 // 2 indel), the interval, the length of the replacement, and how far it moved. Each is 0 where it doesn't
 // apply.
 #[repr(C)]
-#[derive(Drop)]
+#[derive(Clone, Copy)]
 pub struct FvForm {
     pub refusal: u64,
     pub value: u64,
@@ -37,7 +39,7 @@ pub struct FvForm {
 // What an allele's identifier answers: as a call that writes, and how far the normal form moved. Each is 0
 // where it doesn't apply.
 #[repr(C)]
-#[derive(Drop)]
+#[derive(Clone, Copy)]
 pub struct FvIdentified {
     pub refusal: u64,
     pub value: u64,
@@ -48,7 +50,7 @@ pub struct FvIdentified {
 // What a location text is read as: the refusal as above, the interval, and where the digest lies.
 // Each is 0 where it doesn't apply.
 #[repr(C)]
-#[derive(Drop)]
+#[derive(Clone, Copy)]
 pub struct FvLocation {
     pub refusal: u64,
     pub value: u64,
@@ -60,7 +62,7 @@ pub struct FvLocation {
 // What an allele text is read as: the refusal as above, where the location's digest lies, and where
 // the sequence does, with its length. Each is 0 where it doesn't apply.
 #[repr(C)]
-#[derive(Drop)]
+#[derive(Clone, Copy)]
 pub struct FvAllele {
     pub refusal: u64,
     pub value: u64,
@@ -72,7 +74,7 @@ pub struct FvAllele {
 // What the count of a line's alternates answers: the refusal as above, and how many places there are.
 // Each is 0 where it doesn't apply.
 #[repr(C)]
-#[derive(Drop)]
+#[derive(Clone, Copy)]
 pub struct FvCounted {
     pub refusal: u64,
     pub value: u64,
@@ -81,7 +83,7 @@ pub struct FvCounted {
 
 // What a call answers that only accepts or refuses: the refusal as above.
 #[repr(C)]
-#[derive(Drop)]
+#[derive(Clone, Copy)]
 pub struct FvOutcome {
     pub refusal: u64,
     pub value: u64,
@@ -90,7 +92,7 @@ pub struct FvOutcome {
 // What an entry answers: the refusal as above, how the allele was found (1 new, 2 again, 3 known), its
 // number, and how far its normal form moved. Each is 0 where it doesn't apply.
 #[repr(C)]
-#[derive(Drop)]
+#[derive(Clone, Copy)]
 pub struct FvEntered {
     pub refusal: u64,
     pub value: u64,
@@ -102,7 +104,7 @@ pub struct FvEntered {
 // What the reading of a record answers: the refusal as above, the interval, the status (1 active, 0 inactive), and
 // where the replacement lies in the image. Each is 0 where it doesn't apply.
 #[repr(C)]
-#[derive(Drop)]
+#[derive(Clone, Copy)]
 pub struct FvRecord {
     pub refusal: u64,
     pub value: u64,
@@ -115,7 +117,7 @@ pub struct FvRecord {
 
 // What an undo answers: the refusal as above, and the number. Each is 0 where it doesn't apply.
 #[repr(C)]
-#[derive(Drop)]
+#[derive(Clone, Copy)]
 pub struct FvUndone {
     pub refusal: u64,
     pub value: u64,

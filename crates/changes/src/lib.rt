@@ -3,6 +3,8 @@
 //
 // specs/Changes.antt has what each change leaves of the image, and specs/Grounds.antt the grounds on which
 // calls on an image refuse.
+#![tactic(auto)]
+
 mod write;
 
 pub use write::{change, mark, number_form, put_four};

@@ -2,6 +2,8 @@
 //
 // specs/Decimal.antt has the decimal of a number, specs/Number.antt the number of a text, and
 // specs/Leads.antt the digits that a text begins with.
+#![tactic(auto)]
+
 mod decimal;
 
 pub use decimal::{
@@ -9,14 +11,14 @@ pub use decimal::{
 };
 
 // What a text says as a decimal.
-#[derive(Drop)]
+#[derive(Clone, Copy)]
 pub enum Number {
     Is(u64),
     Absent,
 }
 
 // Digits that begin a text: how many, and their number.
-#[derive(Drop)]
+#[derive(Clone, Copy)]
 pub struct Leading {
     pub length: usize,
     pub number: u64,

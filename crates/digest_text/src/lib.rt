@@ -3,6 +3,8 @@
 // their identifiers by it.
 //
 // specs/Base64.antt has the characters, specs/Digest.antt the digest.
+#![tactic(auto)]
+
 mod base64;
 mod identifier;
 

@@ -1,5 +1,7 @@
 // Prints test vectors of digests, a line each. They have to be those of the file stdout, which a second
 // program makes, tests/second/digest_vectors.py, with digests and base64url that are not ours.
+#![tactic(auto)]
+
 mod digest_texts;
 mod encodings;
 mod identifiers;

@@ -2,3 +2,5 @@
 // code here. `history` stands on it.
 //
 // proofs/Seen.antt says it for each change; the other files prove it, in the order of proofs/Lib.antt.
+
+#![tactic(auto)]

@@ -3,6 +3,8 @@
 // are in `register`.
 //
 // specs/Calls.antt has what an entry promises.
+#![tactic(auto)]
+
 mod allele;
 
 pub use allele::entry;

@@ -2,6 +2,8 @@
 // include/fearnavult.h declares them.
 //
 // Crate `c_answers` has the flattening and what every export promises.
+#![tactic(auto)]
+
 ghost use Rattle.std.specs.Prelude.{◌≡◌};
 ghost use Rattle.normal_form_calls.specs.Calls.{Normalises};
 ghost use Rattle.text_reader.specs.Accepted.{ReadsLocation, ReadsAllele};

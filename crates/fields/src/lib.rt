@@ -3,6 +3,8 @@
 //
 // specs/Cut.antt has a text's pieces, proofs/Cutting.antt how they lie between the places found, and
 // proofs/Pieces.antt where the piece of a number lies.
+#![tactic(auto)]
+
 mod extents;
 mod scan;
 
@@ -10,14 +12,14 @@ pub use extents::{count_marks, extent_of, nth_piece, piece_after};
 pub use scan::next;
 
 // Where a piece of a text lies.
-#[derive(Drop)]
+#[derive(Clone, Copy)]
 pub struct Extent {
     pub from: usize,
     pub to: usize,
 }
 
 // The piece that is asked for.
-#[derive(Drop)]
+#[derive(Clone, Copy)]
 pub enum Piece {
     At(Extent),
     Absent,

@@ -3,12 +3,14 @@
 //
 // specs/Found.antt has how a form is found and what its entry is answered and leaves, and specs/Calls.antt what
 // that entry promises.
+#![tactic(auto)]
+
 mod form;
 
 pub use form::enter_form;
 
 // The answer of an entry: how the allele was found, its number, and how far its normal form moved.
-#[derive(Drop)]
+#[derive(Clone, Copy)]
 pub enum Entered {
     New(u64, moved::Moved),
     Again(u64, moved::Moved),

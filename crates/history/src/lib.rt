@@ -3,3 +3,5 @@
 //
 // specs/Events.antt has histories, what stands of them and what replaying it gives, specs/Runs.antt how
 // calls make a history, specs/Demand.antt the demand, and specs/Example.antt document 01's example.
+
+#![tactic(auto)]

@@ -4,6 +4,8 @@
 //
 // specs/Numbers.antt has the numbers, specs/Fields.antt the fields, and specs/Formed.antt when an image
 // is well formed.
+#![tactic(auto)]
+
 mod formed;
 mod header;
 mod number;

@@ -2,6 +2,8 @@
 // says. Crate `answer_line` has the line that answers it.
 //
 // specs/Meaning.antt has what a line says, by the pieces that crate `fields` cuts it into.
+#![tactic(auto)]
+
 mod read;
 mod scan;
 
@@ -9,7 +11,7 @@ pub use read::read_line;
 pub use scan::line_end;
 
 // What a line says: the replacement is the rest of the line from `from` on.
-#[derive(Drop)]
+#[derive(Clone, Copy)]
 pub enum Line {
     Allele { start: u64, end: u64, from: usize },
     Unread,

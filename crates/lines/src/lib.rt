@@ -2,6 +2,8 @@
 // and the answer of each. The program itself is `lines_main`.
 //
 // specs/Output.antt has what is printed for a whole input, and specs/Steps.antt what a step says.
+#![tactic(auto)]
+
 mod walk;
 
 pub use walk::{first_step, next_step};
@@ -14,7 +16,7 @@ pub const ROOM: usize = INPUT_LIMIT + answer_line::BEYOND;
 
 // Where a step comes to: the end of the reference, which is the first line; the place where the next line
 // begins, past the end where none does; and how many bytes of the buffer are to be printed.
-#[derive(Drop)]
+#[derive(Clone, Copy)]
 pub struct Step {
     pub reference: usize,
     pub next: usize,

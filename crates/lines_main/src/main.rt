@@ -1,5 +1,7 @@
 // Reads a reference and alleles from standard input, and prints the normal form of each allele and how far
 // it moved (document 01, "The line program"; document 02, Q-5).
+#![tactic(auto)]
+
 ghost use Rattle.lines.specs.Steps.{Enough};
 
 use libc::{STDIN_FILENO, STDOUT_FILENO};

@@ -2,6 +2,8 @@
 // (document 01, "Texts and identifiers"). Crate `allele_identifier` stands on it.
 //
 // specs/Identifier.antt has the identifier, specs/Calls.antt what the calls promise.
+#![tactic(auto)]
+
 mod hash;
 mod location;
 

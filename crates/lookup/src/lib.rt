@@ -2,6 +2,8 @@
 // `form_entry` stands on it.
 //
 // specs/Lookup.antt has which record holds a form, and which is the lowest.
+#![tactic(auto)]
+
 mod find;
 
 pub use find::lowest_holding;

@@ -2,6 +2,8 @@
 // answer these four numbers beside it; nothing is stored or compared by them.
 //
 // specs/Moved.antt defines them, and proofs/Ends.antt has their laws.
+#![tactic(auto)]
+
 mod sides;
 
 pub use sides::{moved_of, still};
@@ -9,7 +11,7 @@ pub use sides::{moved_of, still};
 // Of one side of the interval: the residues by which it widened past the one given, and those by which it
 // shrank.
 #[repr(C)]
-#[derive(Drop)]
+#[derive(Clone, Copy)]
 pub struct Side {
     pub widened: u64,
     pub shrunk: u64,
@@ -17,7 +19,7 @@ pub struct Side {
 
 // The four numbers, as C reads them too: in the C library's answers they are four fields.
 #[repr(C)]
-#[derive(Drop)]
+#[derive(Clone, Copy)]
 pub struct Moved {
     pub left: Side,
     pub right: Side,

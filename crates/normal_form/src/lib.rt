@@ -4,6 +4,8 @@
 // specs/Form.antt has the form over the reference and the altered sequence, specs/Stretches.antt its
 // replacement as three stretches, specs/Steps.antt VRS's own steps to the same form, and
 // specs/Worked.antt document 01's worked alleles.
+#![tactic(auto)]
+
 mod engine;
 mod lengths;
 mod pieces;
@@ -15,7 +17,7 @@ pub use lengths::{beyond, outline_of};
 pub use pieces::{joined_length, reference_after, reference_before, replacement_kept};
 pub use three::first_foreign_of;
 
-#[derive(Drop)]
+#[derive(Clone, Copy)]
 pub enum Kind {
     Unchanged,
     Substitution,
@@ -24,14 +26,14 @@ pub enum Kind {
 
 // What a normal form takes from the lengths of two sequences and of their common prefix and suffix: its
 // kind, and document 01's a and b, the lengths that it leaves out before and after its interval.
-#[derive(Drop)]
+#[derive(Clone, Copy)]
 pub struct Outline {
     pub kind: Kind,
     pub a: usize,
     pub b: usize,
 }
 
-#[derive(Drop)]
+#[derive(Clone, Copy)]
 pub struct Interval {
     pub start: usize,
     pub end: usize,
@@ -40,7 +42,7 @@ pub struct Interval {
 // A normal form, with its replacement as three stretches: of the reference from `left` to the start
 // given, of the replacement given between `from` and `to`, of the reference from the end given to
 // `right`.
-#[derive(Drop)]
+#[derive(Clone, Copy)]
 pub struct Stretches {
     pub kind: Kind,
     pub start: usize,

@@ -2,12 +2,14 @@
 // Crates `answer_line`, `vcf_form`, `allele_identifier` and `entry` stand on them.
 //
 // specs/Calls.antt has what they promise, and specs/Worked.antt the worked alleles as calls.
+#![tactic(auto)]
+
 mod call;
 
 pub use call::{check_given, clean, form_of, locate, locate_clean, normal_form, write_form};
 
 // A normal form, with the length of its replacement.
-#[derive(Drop)]
+#[derive(Clone, Copy)]
 pub struct Form {
     pub kind: normal_form::Kind,
     pub start: u64,
@@ -15,13 +17,13 @@ pub struct Form {
     pub length: u64,
 }
 
-#[derive(Drop)]
+#[derive(Clone, Copy)]
 pub enum Normalised {
     Accepted(Form, moved::Moved),
     Refused(refusal::Refusal),
 }
 
-#[derive(Drop)]
+#[derive(Clone, Copy)]
 pub enum Located {
     Accepted(normal_form::Stretches),
     Refused(refusal::Refusal),

@@ -1,5 +1,7 @@
 // The parts of a line of test vectors, on standard output, for the programs that print them: `digest_vectors`,
 // `allele_vectors` and `register_vectors`.
+#![tactic(auto)]
+
 ghost use Rattle.std.specs.Prelude.{◌≡◌, take, drop};
 
 use libc::STDOUT_FILENO;

@@ -2,6 +2,8 @@
 // (document 01, "The register image"). Crate `register` stands on it.
 //
 // specs/Calls.antt has the grounds and what the calls answer, and proofs/Told.antt what an accepted reading tells.
+#![tactic(auto)]
+
 mod checking;
 mod reading;
 
@@ -10,7 +12,7 @@ pub use reading::{check_number, read_record};
 
 // What stands under a number: its normal interval, its status (1 active, 0 inactive), and where its replacement
 // lies in the image.
-#[derive(Drop)]
+#[derive(Clone, Copy)]
 pub struct Record {
     pub start: u64,
     pub end: u64,
@@ -19,7 +21,7 @@ pub struct Record {
     pub length: u64,
 }
 
-#[derive(Drop)]
+#[derive(Clone, Copy)]
 pub enum RecordRead {
     Accepted(Record),
     Refused(refusal::Refusal),

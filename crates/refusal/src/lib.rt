@@ -3,23 +3,25 @@
 //
 // specs/Verdict.antt has the ordered grounds of a refusal and the verdict over them, and
 // specs/Writes.antt what a call that writes promises.
+#![tactic(auto)]
+
 ghost use Rattle.std.specs.Prelude.{◌≡◌, ◌+◌, ltb};
 
-#[derive(Drop)]
+#[derive(Clone, Copy)]
 pub struct Refusal {
     pub number: u64,
     pub value: u64,
 }
 
 // The answer of a call that only accepts or refuses.
-#[derive(Drop)]
+#[derive(Clone, Copy)]
 pub enum Outcome {
     Accepted,
     Refused(Refusal),
 }
 
 // The answer of a call that writes: how many bytes it wrote.
-#[derive(Drop)]
+#[derive(Clone, Copy)]
 pub enum Written {
     Bytes(u64),
     Refused(Refusal),

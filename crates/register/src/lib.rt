@@ -2,6 +2,8 @@
 // `blank`, and entry is in `entry`.
 //
 // specs/Calls.antt has what the calls promise.
+#![tactic(auto)]
+
 mod undoing;
 mod withdrawal;
 
@@ -9,7 +11,7 @@ pub use undoing::{seal, undo};
 pub use withdrawal::withdraw;
 
 // The answer of an undo: the number whose last change was taken back.
-#[derive(Drop)]
+#[derive(Clone, Copy)]
 pub enum Undone {
     Number(u64),
     Refused(refusal::Refusal),

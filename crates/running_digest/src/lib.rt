@@ -2,6 +2,8 @@
 //
 // Crate `sequence_identifier` has the same calls by value, which these wrap. The C library exports these;
 // the rest of the project uses those.
+#![tactic(auto)]
+
 ghost use Rattle.sequence_identifier.specs.Calls.{Finishes};
 ghost use Rattle.running_digest.specs.Calls.{Feeds};
 

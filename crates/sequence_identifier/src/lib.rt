@@ -2,6 +2,8 @@
 // comes in parts. Crate `running_digest` lends the state.
 //
 // specs/Identifier.antt has the identifier, specs/Calls.antt what the calls promise.
+#![tactic(auto)]
+
 mod identifier;
 mod running;
 
@@ -11,7 +13,7 @@ pub use running::{begin, feed, finish};
 use sha512::Running;
 
 // A running digest after a part, and whether it took the part.
-#[derive(Drop)]
+#[derive(Clone, Copy)]
 pub struct Fed {
     pub state: Running,
     pub outcome: Outcome,

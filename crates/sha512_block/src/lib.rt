@@ -1,5 +1,7 @@
 // The compression function of SHA-512 (FIPS 180-4): what each block of 128 bytes makes of a hash value.
 // Crates `sha512_padding` and `sha512` stand on it. specs/ has the standard's words, constants and rounds.
+#![tactic(auto)]
+
 mod block;
 mod constants;
 mod words;
@@ -12,7 +14,7 @@ pub const BLOCK_SIZE: usize = 128;
 
 // A hash value of eight words; also a round's eight working variables.
 #[repr(C)]
-#[derive(Drop)]
+#[derive(Clone, Copy)]
 pub struct Hash {
     pub a: u64,
     pub b: u64,

@@ -1,5 +1,7 @@
 // What is said of lent lists once: what a buffer holds after a write, how far two stretches agree,
 // and the code that writes, compares and reads stretches. Most crates stand on this one.
+#![tactic(auto)]
+
 mod big_endian;
 mod compare;
 mod write;

@@ -1,5 +1,7 @@
 // The stretches that `text_reader` hands back, each passed on to C's `write` as it lies. A promise speaks of a
 // stretch's bytes and not of its place: tests/stretches has a `write` of its own, which sees that.
+#![tactic(auto)]
+
 use libc::STDOUT_FILENO;
 use text_reader::{digest_of, location_of, sequence_of};
 

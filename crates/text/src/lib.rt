@@ -1,6 +1,8 @@
 // The location text and the allele text, written. Crate `text_reader` reads them back.
 //
 // specs/Layout.antt has the two texts.
+#![tactic(auto)]
+
 mod layout;
 
 pub use layout::{

@@ -3,6 +3,8 @@
 // `location_identifier` and `allele_identifier`.
 //
 // specs/Accepted.antt has the texts that are accepted and what reading them answers.
+#![tactic(auto)]
+
 mod allele;
 mod location;
 mod part;
@@ -11,28 +13,28 @@ pub use allele::{location_of, read_allele, sequence_of};
 pub use location::{digest_of, read_location};
 
 // What a location text says: start, end, and where its sequence digest begins.
-#[derive(Drop)]
+#[derive(Clone, Copy)]
 pub struct LocationParts {
     pub start: u64,
     pub end: u64,
     pub digest: u64,
 }
 
-#[derive(Drop)]
+#[derive(Clone, Copy)]
 pub enum LocationRead {
     Accepted(LocationParts),
     Refused(refusal::Refusal),
 }
 
 // Where the parts of an allele text lie: the location's digest, and the sequence.
-#[derive(Drop)]
+#[derive(Clone, Copy)]
 pub struct AlleleParts {
     pub location: u64,
     pub sequence: u64,
     pub length: u64,
 }
 
-#[derive(Drop)]
+#[derive(Clone, Copy)]
 pub enum AlleleRead {
     Accepted(AlleleParts),
     Refused(refusal::Refusal),

@@ -1,5 +1,7 @@
 // Letters read as upper case: stretches tested, compared and copied so, as they lie in what was lent.
 // Crates `vcf_line` and `vcf_form` stand on it.
+#![tactic(auto)]
+
 mod compare;
 mod letters;
 mod write;

@@ -3,6 +3,8 @@
 //
 // specs/Line.antt has the columns, the positions and the alternates, specs/Calls.antt the grounds 19 to 21 and what
 // the calls promise, and proofs/Behind.antt that no byte behind ALT matters.
+#![tactic(auto)]
+
 mod alternates;
 mod positions;
 mod scan;
@@ -12,22 +14,22 @@ pub use alternates::{alternate_of, vcf_count};
 pub use sites::read_site;
 
 // A residue, as VCF counts: the first is 1.
-#[derive(Drop)]
+#[derive(Clone, Copy)]
 pub struct ResiduePosition(pub u64);
 
 // A position between residues: 0 is before the first.
-#[derive(Drop)]
+#[derive(Clone, Copy)]
 pub struct InterbasePosition(pub u64);
 
 // What POS says.
-#[derive(Drop)]
+#[derive(Clone, Copy)]
 pub enum Position {
     At(ResiduePosition),
     Absent,
 }
 
 // Where the columns lie that are read.
-#[derive(Drop)]
+#[derive(Clone, Copy)]
 pub enum Columns {
     Five {
         pos: fields::Extent,
@@ -38,20 +40,20 @@ pub enum Columns {
 }
 
 // Where a line stands on the reference, and where its alternates lie in the line.
-#[derive(Drop)]
+#[derive(Clone, Copy)]
 pub struct Site {
     pub start: InterbasePosition,
     pub end: InterbasePosition,
     pub alternates: fields::Extent,
 }
 
-#[derive(Drop)]
+#[derive(Clone, Copy)]
 pub enum Sited {
     Accepted(Site),
     Refused(refusal::Refusal),
 }
 
-#[derive(Drop)]
+#[derive(Clone, Copy)]
 pub enum Counted {
     Places(u64),
     Refused(refusal::Refusal),

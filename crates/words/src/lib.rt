@@ -3,20 +3,22 @@
 //
 // specs/Prefix.antt has the longest prefix that begins some accepted text, specs/Vocabulary.antt the
 // words, specs/Walk.antt how a text is read by them, and proofs/Layouts.antt a text as a table of words.
+#![tactic(auto)]
+
 mod range;
 mod words;
 
 pub use words::{past_decimal, past_digest, past_residues, past_word};
 
 // How far a text is read, and whether it may go on from there.
-#[derive(Drop)]
+#[derive(Clone, Copy)]
 pub struct Walk {
     pub at: usize,
     pub on: bool,
 }
 
 // A walk past a decimal, and its number.
-#[derive(Drop)]
+#[derive(Clone, Copy)]
 pub struct Counted {
     pub walk: Walk,
     pub number: u64,
