@@ -15,7 +15,7 @@ bounds-s-i c = omega arith
 pub returns-then-not-is_base64url : goal.returns-then-not-is_base64url
 returns-then-not-is_base64url c = let l = c.loop-i in
     sym (first_outside-here base64url _ l.i (omega arith)
-    (sym c.is_base64url.ensures ∙ not-true _ c.if-not-is_base64url.true) l.invariant.1)
+    (sym c.is_base64url.ensures ∙ c.if-not-is_base64url.true) l.invariant.1)
 
 pub overflow_add-i : goal.overflow_add-i
 overflow_add-i c = omega arith
@@ -27,7 +27,7 @@ pub loop-i-preserved : goal.loop-i-preserved
 loop-i-preserved c = let l = c.loop-i in (
   omega arith,
   first_outside-on base64url _ l.i (omega arith)
-      (sym c.is_base64url.ensures ∙ not-false _ c.if-not-is_base64url.false) l.invariant.1,
+      (sym c.is_base64url.ensures ∙ c.if-not-is_base64url.false) l.invariant.1,
 )
 
 pub returns : goal.returns

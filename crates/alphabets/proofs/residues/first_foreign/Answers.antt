@@ -7,7 +7,7 @@ use Rattle.stretch.proofs.Outside.{first_outside-on, first_outside-here, first_o
 use Rattle.alphabets.proofs.residues.first_foreign.Goals as goal
 
 pub loop-i-init : goal.loop-i-init
-loop-i-init c = c.clean_blocks-i.ensures
+loop-i-init c = (c.clean_blocks-i.ensures.upper_bound, c.clean_blocks-i.ensures.s_value)
 
 pub bounds-s-i : goal.bounds-s-i
 bounds-s-i c = omega arith
@@ -15,7 +15,7 @@ bounds-s-i c = omega arith
 pub returns-then-not-is_residue : goal.returns-then-not-is_residue
 returns-then-not-is_residue c = let l = c.loop-i in
     sym (first_outside-here residue _ l.i (omega arith)
-    (sym c.is_residue.ensures ∙ not-true _ c.if-not-is_residue.true) l.invariant.1)
+    (sym c.is_residue.ensures ∙ c.if-not-is_residue.true) l.invariant.1)
 
 pub overflow_add-i : goal.overflow_add-i
 overflow_add-i c = omega arith
@@ -27,7 +27,7 @@ pub loop-i-preserved : goal.loop-i-preserved
 loop-i-preserved c = let l = c.loop-i in (
   omega arith,
   first_outside-on residue _ l.i (omega arith)
-      (sym c.is_residue.ensures ∙ not-false _ c.if-not-is_residue.false) l.invariant.1,
+      (sym c.is_residue.ensures ∙ c.if-not-is_residue.false) l.invariant.1,
 )
 
 pub returns : goal.returns
