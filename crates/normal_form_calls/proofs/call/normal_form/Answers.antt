@@ -19,7 +19,7 @@ returns-then-sum_exceeds c =
 pub write_form-requires : goal.write_form-requires
 write_form-requires c =
     let room = rw c.form_of-form.ensures at (sym c.sum_exceeds.ensures ∙ c.if-sum_exceeds.false) in
-    (clean-fits _ _ _ _ _ c.in-Accepted.ensures, ltb-false _ _ room)
+    record { fits = clean-fits _ _ _ _ _ c.in-Accepted.ensures; w_in_bounds = ltb-false _ _ room }
 
 pub returns-else-sum_exceeds : goal.returns-else-sum_exceeds
 returns-else-sum_exceeds c =
