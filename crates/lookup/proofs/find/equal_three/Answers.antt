@@ -14,16 +14,16 @@ pub returns-then-not-equal : goal.returns-then-not-equal
 returns-then-not-equal c =
     let l = c.args in
     rw (same-three l.s.now l.a.now l.b.now l.c.now c.requires)
-    (rw (sym c.equal.ensures ∙ not-true _ c.if-not-equal.true))
+    (rw (sym c.equal.ensures ∙ c.if-not-equal.true))
 
 pub returns-then-not-equal-2 : goal.returns-then-not-equal-2
 returns-then-not-equal-2 c =
     let l = c.args in
     rw (same-three l.s.now l.a.now l.b.now l.c.now c.requires)
     (rw (
-      sym c.equal.ensures ∙ not-false _ c.if-not-equal.false,
+      sym c.equal.ensures ∙ c.if-not-equal.false,
       sym c.equal-2.ensures
-          ∙ not-true _ c.if-not-equal-2.true,
+          ∙ c.if-not-equal-2.true,
     ))
 
 pub returns : goal.returns
@@ -31,7 +31,7 @@ returns c =
     let l = c.args in
     rw (same-three l.s.now l.a.now l.b.now l.c.now c.requires)
     (rw (
-      sym c.equal.ensures ∙ not-false _ c.if-not-equal.false,
+      sym c.equal.ensures ∙ c.if-not-equal.false,
       sym c.equal-2.ensures
-          ∙ not-false _ c.if-not-equal-2.false,
+          ∙ c.if-not-equal-2.false,
     ) c.equal-3.ensures)
