@@ -1,7 +1,5 @@
-use Prim.Native.Nat.{◌-◌}
 use native.Mathlib.Omega.{arith}
 use mathlib.Core.Path.{◌∙◌, sym}
-use borrow.Author.Tests.{not-false}
 use Rattle.alphabets.specs.Alphabets.{residue}
 use Rattle.stretch.proofs.Outside.{first_outside-block, first_outside-rest}
 use Rattle.alphabets.proofs.Letters.{every-residue}

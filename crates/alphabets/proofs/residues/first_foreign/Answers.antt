@@ -1,7 +1,5 @@
-use Prim.Native.Nat.{◌-◌}
 use native.Mathlib.Omega.{arith}
 use mathlib.Core.Path.{◌∙◌, sym}
-use borrow.Author.Tests.{not-true, not-false}
 use Rattle.alphabets.specs.Alphabets.{residue}
 use Rattle.stretch.proofs.Outside.{first_outside-on, first_outside-here, first_outside-end}
 use Rattle.alphabets.proofs.residues.first_foreign.Goals as goal
