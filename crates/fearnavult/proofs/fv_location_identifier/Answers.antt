@@ -1,0 +1,10 @@
+-- What `location_identifier::location_identifier` answers, flattened.
+use Rattle.fearnavult.proofs.fv_location_identifier.Goals as goal
+
+pub returns : goal.returns
+returns c = record {
+  below = _;
+  flat = c.flat_written.ensures;
+  promised =
+      c.location_identifier.ensures;
+}

@@ -1,0 +1,28 @@
+-- The tests, and the identifier where they let it through.
+use native.Mathlib.Omega.{arith}
+use mathlib.Core.Path.{◌≡◌}
+use lib.ListN.{length}
+use borrow.Author.Rules.{rules}
+use Rattle.digest_text.specs.Digest.{sha512t24u}
+use Rattle.sequence_identifier.specs.Identifier.{sequence_identifier}
+use Rattle.sequence_identifier.specs.Calls.{reference_grounds}
+use Rattle.sequence_identifier.specs.Inner.{whole_answer}
+use Rattle.sequence_identifier.proofs.Tested.{tested-room, tested-writes, tested-silent}
+use Rattle.sequence_identifier.proofs.identifier.sequence_identifier.Goals as goal
+
+pub place_identifier-requires : goal.place_identifier-requires
+unfolding whole_answer
+place_identifier-requires c =
+    let told = c.in-Accepted.ensures in
+    let long : length c.of_message-hash.result ≡ 64 = search rules in
+    (tested-room (reference_grounds c.args.reference.now) _ _ _ told, omega arith)
+
+pub returns-in-Accepted : goal.returns-in-Accepted
+unfolding whole_answer sequence_identifier sha512t24u
+returns-in-Accepted c =
+    tested-writes _ _ _ _ _ _ c.in-Accepted.ensures
+    (rw (← c.of_message-hash.ensures) c.place_identifier.ensures)
+
+pub returns-in-Refused : goal.returns-in-Refused
+unfolding whole_answer
+returns-in-Refused c = tested-silent _ _ _ _ _ c.in-Refused.ensures

@@ -1,0 +1,65 @@
+-- Each return is what the grounds say, by the tests that led there.
+use native.Mathlib.Omega.{arith}
+use mathlib.Core.Path.{◌∙◌, sym}
+use borrow.Author.Tests.{not-true, not-false}
+use Rattle.vcf_line.proofs.Scanned.{columns-found, columns-few, columns-enough}
+use Rattle.vcf_line.proofs.Answers.{position-within, sited-over, sited-few, sited-unlettered}
+use Rattle.vcf_line.proofs.Answers.{sited-no-position, sited-compared}
+use Rattle.vcf_line.proofs.sites.read_site.Goals as goal
+
+pub returns-then-reference-gt-REFERENCE_LIMIT : goal.returns-then-reference-gt-REFERENCE_LIMIT
+returns-then-reference-gt-REFERENCE_LIMIT c = rw c.refuse.ensures (sited-over _ _ c.if-reference-gt-REFERENCE_LIMIT.true)
+
+pub returns-in_default : goal.returns-in_default
+returns-in_default c =
+    rw c.refuse-in_default.ensures
+    (sited-few _ _ c.if-reference-gt-REFERENCE_LIMIT.false
+    (columns-few _ c.in_default.ensures))
+
+pub extent_of-ref_column-requires : goal.extent_of-ref_column-requires
+extent_of-ref_column-requires c =
+    let f = columns-found _ c.in-Five.ensures in
+    (f.reference.ordered, f.reference.inside)
+
+pub returns-then-not-is_lettered : goal.returns-then-not-is_lettered
+returns-then-not-is_lettered c =
+    let f = columns-found _ c.in-Five.ensures in
+    let ref = c.extent_of-ref_column.ensures ∙ sym f.reference.piece in
+    rw c.refuse-then-not-is_lettered.ensures
+    (sited-unlettered _ _ c.if-reference-gt-REFERENCE_LIMIT.false (columns-enough _ f)
+    (rw ref at (sym c.is_lettered.ensures ∙ not-true _ c.if-not-is_lettered.true)))
+
+pub extent_of-requires : goal.extent_of-requires
+extent_of-requires c =
+    let f = columns-found _ c.in-Five.ensures in
+    (f.pos.ordered, f.pos.inside)
+
+pub returns-in_default-read_position : goal.returns-in_default-read_position
+returns-in_default-read_position c =
+    let f = columns-found _ c.in-Five.ensures in
+    let ref = c.extent_of-ref_column.ensures ∙ sym f.reference.piece in
+    let pos = c.extent_of.ensures ∙ sym f.pos.piece in
+    rw c.refuse-in_default-read_position.ensures
+    (sited-no-position _ _ c.if-reference-gt-REFERENCE_LIMIT.false (columns-enough _ f)
+    (rw ref at (sym c.is_lettered.ensures ∙ not-false _ c.if-not-is_lettered.false))
+    (rw pos at c.in_default-read_position.ensures))
+
+pub before_residue-requires : goal.before_residue-requires
+before_residue-requires c =
+    let w = position-within _ _ _ c.in-At.ensures in
+    w.low
+
+pub compare_ref-requires : goal.compare_ref-requires
+compare_ref-requires c =
+    let w = position-within _ _ _ c.in-At.ensures in
+    (c.if-reference-gt-REFERENCE_LIMIT.false, rw c.before_residue.ensures (omega (arith, w.high)))
+
+pub returns : goal.returns
+returns c =
+    let f = columns-found _ c.in-Five.ensures in
+    let ref = c.extent_of-ref_column.ensures ∙ sym f.reference.piece in
+    let pos = c.extent_of.ensures ∙ sym f.pos.piece in
+    rw (c.compare_ref.ensures, c.before_residue.ensures, ref)
+    (sited-compared _ _ c.if-reference-gt-REFERENCE_LIMIT.false (columns-enough _ f)
+    (rw ref at (sym c.is_lettered.ensures ∙ not-false _ c.if-not-is_lettered.false))
+    _ (rw pos at c.in-At.ensures) _ f.third)
