@@ -6,8 +6,10 @@ mod alleles;
 mod readings;
 mod texts;
 
-fn main() {
-    alleles::lines();
-    texts::lines();
-    readings::lines();
+use std::io;
+
+fn main(rt: HostRuntime) -> io::Result<()> {
+    alleles::lines(&rt)?;
+    texts::lines(&rt)?;
+    readings::lines(&rt)
 }

@@ -1,38 +1,39 @@
 // Digest texts: of 32 base64url characters, of other lengths, with other characters.
 use printer::{outcome, shown, text};
+use std::io;
 
-fn line(digest: &[u8]) {
-    text(b"digest-text ");
-    shown(digest);
-    outcome(alphabets::check_digest_text(digest));
-    text(b"\n");
+fn line(rt: &impl Print, digest: &[u8]) -> io::Result<()> {
+    text(rt, b"digest-text ")?;
+    shown(rt, digest)?;
+    outcome(rt, alphabets::check_digest_text(digest))?;
+    text(rt, b"\n")
 }
 
-fn lengths() {
-    line(b"aKF498dAxcJAqme6QYQ7EZ07-fiw8Kw2");
-    line(b"aKF498dAxcJAqme6QYQ7EZ07-fiw8Kw");
-    line(b"aKF498dAxcJAqme6QYQ7EZ07-fiw8Kw2A");
-    line(b"");
+fn lengths(rt: &impl Print) -> io::Result<()> {
+    line(rt, b"aKF498dAxcJAqme6QYQ7EZ07-fiw8Kw2")?;
+    line(rt, b"aKF498dAxcJAqme6QYQ7EZ07-fiw8Kw")?;
+    line(rt, b"aKF498dAxcJAqme6QYQ7EZ07-fiw8Kw2A")?;
+    line(rt, b"")
 }
 
-fn characters() {
-    line(b"+KF498dAxcJAqme6QYQ7EZ07-fiw8Kw2");
-    line(b"aKF498dAxcJAqme6QYQ7EZ07-fiw8Kw/");
-    line(b"aKF49=dAxcJAqme6QYQ7EZ07-fiw8Kw@");
-    line(b"________________________________");
-    line(b"[[[[[[[[[[[[[[[[[[[[[[[[[[[[[[[[");
+fn characters(rt: &impl Print) -> io::Result<()> {
+    line(rt, b"+KF498dAxcJAqme6QYQ7EZ07-fiw8Kw2")?;
+    line(rt, b"aKF498dAxcJAqme6QYQ7EZ07-fiw8Kw/")?;
+    line(rt, b"aKF49=dAxcJAqme6QYQ7EZ07-fiw8Kw@")?;
+    line(rt, b"________________________________")?;
+    line(rt, b"[[[[[[[[[[[[[[[[[[[[[[[[[[[[[[[[")
 }
 
 // Characters that stand right beside the alphabet's ranges.
-fn neighbours() {
-    line(b"aKF498dAxcJAqme6QYQ7EZ07-fiw8Kw{");
-    line(b":KF498dAxcJAqme6QYQ7EZ07-fiw8Kw2");
-    line(b"aKF498dAxcJAqme6`YQ7EZ07-fiw8Kw2");
+fn neighbours(rt: &impl Print) -> io::Result<()> {
+    line(rt, b"aKF498dAxcJAqme6QYQ7EZ07-fiw8Kw{")?;
+    line(rt, b":KF498dAxcJAqme6QYQ7EZ07-fiw8Kw2")?;
+    line(rt, b"aKF498dAxcJAqme6`YQ7EZ07-fiw8Kw2")
 }
 
-pub fn lines() {
-    lengths();
-    characters();
-    line(b"ga4gh:SQ.aKF498dAxcJAqme6QYQ7EZ07-fiw8Kw2");
-    neighbours();
+pub fn lines(rt: &impl Print) -> io::Result<()> {
+    lengths(rt)?;
+    characters(rt)?;
+    line(rt, b"ga4gh:SQ.aKF498dAxcJAqme6QYQ7EZ07-fiw8Kw2")?;
+    neighbours(rt)
 }

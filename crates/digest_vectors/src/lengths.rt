@@ -2,6 +2,7 @@
 ghost use Rattle.std.specs.Prelude.{◌≤◌, length};
 
 use printer::{hex, labelled, text};
+use std::io;
 use stretch::equal;
 
 const LONGEST: usize = 300;
@@ -19,42 +20,43 @@ fn fill(message: &mut [u8])
     }
 }
 
-fn comparison(same: bool) {
+fn comparison(rt: &impl Print, same: bool) -> io::Result<()> {
     if same {
-        text(b" same\n");
+        text(rt, b" same\n")
     } else {
-        text(b" differs\n");
+        text(rt, b" differs\n")
     }
 }
 
-fn line(message: &[u8])
+fn line(rt: &impl Print, message: &[u8]) -> io::Result<()>
     requires { length message.now ≤ 300 }
 {
     let cut = message.len() * 5 / 7;
     let whole = sha512::of_message(message);
     let parts = digest_of_two(&message[0..cut], &message[cut..]);
-    labelled(b"sha512 ", message.len() as u64);
-    text(b" ");
-    hex(&whole);
-    comparison(equal(&whole, &parts));
+    labelled(rt, b"sha512 ", message.len() as u64)?;
+    text(rt, b" ")?;
+    hex(rt, &whole)?;
+    comparison(rt, equal(&whole, &parts))
 }
 
-fn filled_line(message: &mut [u8])
+fn filled_line(rt: &impl Print, message: &mut [u8]) -> io::Result<()>
     requires { length message.old ≤ 300 }
 {
     fill(message);
-    line(message);
+    line(rt, message)
 }
 
-fn of_length(n: usize)
+fn of_length(rt: &impl Print, n: usize) -> io::Result<()>
     requires { n ≤ 300 }
 {
     let mut space = [0u8; LONGEST];
-    filled_line(&mut space[0..n]);
+    filled_line(rt, &mut space[0..n])
 }
 
-pub fn lines() {
+pub fn lines(rt: &impl Print) -> io::Result<()> {
     for n in 0..=LONGEST {
-        of_length(n);
+        of_length(rt, n)?;
     }
+    Ok(())
 }

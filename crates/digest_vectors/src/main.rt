@@ -9,11 +9,13 @@ mod lengths;
 mod published;
 mod running;
 
-fn main() {
-    published::lines();
-    lengths::lines();
-    encodings::lines();
-    identifiers::lines();
-    running::lines();
-    digest_texts::lines();
+use std::io;
+
+fn main(rt: HostRuntime) -> io::Result<()> {
+    published::lines(&rt)?;
+    lengths::lines(&rt)?;
+    encodings::lines(&rt)?;
+    identifiers::lines(&rt)?;
+    running::lines(&rt)?;
+    digest_texts::lines(&rt)
 }

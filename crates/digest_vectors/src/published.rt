@@ -3,6 +3,7 @@ ghost use Rattle.std.specs.Prelude.{◌≡◌, length};
 
 use printer::{hex, text};
 use sha512::Running;
+use std::io;
 
 // Six parts below, at and above the length of a block, 5,480 bytes in all.
 fn feed_uneven(state: Running, same: &[u8]) -> Running
@@ -32,22 +33,23 @@ fn million() -> [u8; 64] {
     sha512::finish(sha512::feed(feed_rounds(&same), &same[0..2640]))
 }
 
-fn line(name: &[u8], digest: &[u8; 64]) {
-    text(b"sha512 ");
-    text(name);
-    text(b" ");
-    hex(digest);
-    text(b"\n");
+fn line(rt: &impl Print, name: &[u8], digest: &[u8; 64]) -> io::Result<()> {
+    text(rt, b"sha512 ")?;
+    text(rt, name)?;
+    text(rt, b" ")?;
+    hex(rt, digest)?;
+    text(rt, b"\n")
 }
 
-pub fn lines() {
-    line(b"empty", &sha512::of_message(b""));
-    line(b"abc", &sha512::of_message(b"abc"));
+pub fn lines(rt: &impl Print) -> io::Result<()> {
+    line(rt, b"empty", &sha512::of_message(b""))?;
+    line(rt, b"abc", &sha512::of_message(b"abc"))?;
     line(
+        rt,
         b"896-bit",
         &sha512::of_message(
             b"abcdefghbcdefghicdefghijdefghijkefghijklfghijklmghijklmnhijklmnoijklmnopjklmnopqklmnopqrlmnopqrsmnopqrstnopqrstu",
         ),
-    );
-    line(b"million-a", &million());
+    )?;
+    line(rt, b"million-a", &million())
 }

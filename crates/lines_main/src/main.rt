@@ -2,26 +2,44 @@
 // it moved (document 01, "The line program"; document 02, Q-5).
 #![tactic(auto)]
 
+ghost use Rattle.std.specs.Prelude.{◌≤◌, length, IfOk};
 ghost use Rattle.lines.specs.Steps.{Enough};
 
-use libc::{STDIN_FILENO, STDOUT_FILENO};
 use lines::{INPUT_LIMIT, ROOM, first_step, next_step};
+use std::io;
+use std::io::{Read, Write};
 
 // Prints what each step writes, while some of the input is left.
-fn print_answers(input: &[u8], out: &mut [u8])
+fn print_answers(rt: &impl Print, input: &[u8], out: &mut [u8]) -> io::Result<()>
     requires { Enough input.now out.old }
 {
     let mut step = first_step(input);
     while step.next < input.len() {
         step = next_step(input, step, out);
         let end = step.written;
-        io::write_all(STDOUT_FILENO, &out[0..end]);
+        io::writer(rt).write_all(&out[0..end])?;
     }
+    Ok(())
 }
 
-fn main() {
+// Reads until `input` is full or no more comes, and returns how many bytes stand at its front.
+fn read_full<R: Read>(from: &mut R, input: &mut [u8]) -> io::Result<usize>
+    ensures { IfOk result (λ count. count ≤ length input.new) }
+{
+    let mut count = 0;
+    while count < input.len() {
+        let more = from.read(&mut input[count..])?;
+        if more == 0 {
+            break;
+        }
+        count += more;
+    }
+    Ok(count)
+}
+
+fn main(rt: HostRuntime) -> io::Result<()> {
     let mut input = [0u8; INPUT_LIMIT];
-    let count = io::read_full(STDIN_FILENO, &mut input);
+    let count = read_full(&mut rt.reader(), &mut input)?;
     let mut out = [0u8; ROOM];
-    print_answers(&input[0..count], &mut out);
+    print_answers(&rt, &input[0..count], &mut out)
 }

@@ -4,20 +4,21 @@
 
 ghost use Rattle.std.specs.Prelude.{◌≡◌, take, drop};
 
-use libc::STDOUT_FILENO;
 use moved::Moved;
 use refusal::{Outcome, Refusal, Written};
+use std::io;
+use std::io::Write;
 
-pub fn text(s: &[u8]) {
-    io::write_all(STDOUT_FILENO, s);
+pub fn text(rt: &impl Print, s: &[u8]) -> io::Result<()> {
+    io::writer(rt).write_all(s)
 }
 
 // An empty text shows as a point.
-pub fn shown(s: &[u8]) {
+pub fn shown(rt: &impl Print, s: &[u8]) -> io::Result<()> {
     if s.len() == 0 {
-        text(b".");
+        text(rt, b".")
     } else {
-        text(s);
+        text(rt, s)
     }
 }
 
@@ -37,61 +38,62 @@ pub fn part(out: &[u8], place: u64, count: u64) -> &[u8]
 }
 
 // A label, then two texts with a space between them.
-pub fn two(label: &[u8], first: &[u8], second: &[u8]) {
-    text(label);
-    shown(first);
-    text(b" ");
-    shown(second);
+pub fn two(rt: &impl Print, label: &[u8], first: &[u8], second: &[u8]) -> io::Result<()> {
+    text(rt, label)?;
+    shown(rt, first)?;
+    text(rt, b" ")?;
+    shown(rt, second)
 }
 
-pub fn labelled(label: &[u8], n: u64) {
-    text(label);
-    io::print_decimal(STDOUT_FILENO, n);
+pub fn labelled(rt: &impl Print, label: &[u8], n: u64) -> io::Result<()> {
+    text(rt, label)?;
+    print!(rt; "{n}")
 }
 
-pub fn hex_byte(b: u8) {
-    io::print_hex(STDOUT_FILENO, b as u64, 2);
+pub fn hex_byte(rt: &impl Print, b: u8) -> io::Result<()> {
+    print!(rt; "{b:02x}")
 }
 
-pub fn hex(s: &[u8]) {
-    for i in 0..s.len() {
-        hex_byte(s[i]);
+pub fn hex(rt: &impl Print, s: &[u8]) -> io::Result<()> {
+    for b in s {
+        hex_byte(rt, *b)?;
     }
+    Ok(())
 }
 
-pub fn refused(r: Refusal) {
-    labelled(b" refused ", r.number);
-    labelled(b" ", r.value);
+pub fn refused(rt: &impl Print, r: Refusal) -> io::Result<()> {
+    labelled(rt, b" refused ", r.number)?;
+    labelled(rt, b" ", r.value)
 }
 
 // How far a form moved.
-pub fn moved(by: Moved) {
-    labelled(b" moved ", by.left.widened);
-    labelled(b" ", by.left.shrunk);
-    labelled(b" ", by.right.widened);
-    labelled(b" ", by.right.shrunk);
+pub fn moved(rt: &impl Print, by: Moved) -> io::Result<()> {
+    labelled(rt, b" moved ", by.left.widened)?;
+    labelled(rt, b" ", by.left.shrunk)?;
+    labelled(rt, b" ", by.right.widened)?;
+    labelled(rt, b" ", by.right.shrunk)
 }
 
-pub fn outcome(answer: Outcome) {
+pub fn outcome(rt: &impl Print, answer: Outcome) -> io::Result<()> {
     match answer {
-        Outcome::Accepted => text(b" taken"),
-        Outcome::Refused(r) => refused(r),
+        Outcome::Accepted => text(rt, b" taken"),
+        Outcome::Refused(r) => refused(rt, r),
     }
 }
 
-pub fn written(answer: Written) {
+pub fn written(rt: &impl Print, answer: Written) -> io::Result<()> {
     match answer {
-        Written::Bytes(count) => labelled(b" written ", count),
-        Written::Refused(r) => refused(r),
+        Written::Bytes(count) => labelled(rt, b" written ", count),
+        Written::Refused(r) => refused(rt, r),
     }
 }
 
 // The answer, and what it says is written in `out` from `place` on.
-pub fn written_text(out: &[u8], place: u64, answer: Written) {
-    written(answer);
+pub fn written_text(rt: &impl Print, out: &[u8], place: u64, answer: Written) -> io::Result<()> {
+    written(rt, answer)?;
     let Written::Bytes(count) = answer else {
-        return;
+        return Ok(());
     };
-    text(b" ");
-    shown(part(out, place, count));
+    text(rt, b" ")?;
+    shown(rt, part(out, place, count))
 }

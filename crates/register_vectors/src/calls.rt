@@ -8,150 +8,160 @@ use printer::{hex, labelled, moved, part, refused, shown, text};
 use record_reader::{RecordRead, read_record};
 use refusal::Outcome;
 use register::Undone;
+use std::io;
 
 // No image takes all of the buffer; what stands after it is to stay.
 pub const SIZE: usize = 160;
 
 const ROW: usize = 16;
 
-fn row(bytes: &[u8]) {
-    hex(bytes);
-    text(b"\n");
+fn row(rt: &impl Print, bytes: &[u8]) -> io::Result<()> {
+    hex(rt, bytes)?;
+    text(rt, b"\n")
 }
 
 // The bytes that a call has left.
-fn left(image: &[u8]) {
+fn left(rt: &impl Print, image: &[u8]) -> io::Result<()> {
     for i in 0..image.len() / ROW {
-        row(&image[ROW * i..ROW * i + ROW]);
+        row(rt, &image[ROW * i..ROW * i + ROW])?;
     }
+    Ok(())
 }
 
 // What a call answers, to the end of the line.
-fn done(answer: Outcome) {
+fn done(rt: &impl Print, answer: Outcome) -> io::Result<()> {
     match answer {
-        Outcome::Accepted => text(b" done"),
-        Outcome::Refused(r) => refused(r),
+        Outcome::Accepted => text(rt, b" done")?,
+        Outcome::Refused(r) => refused(rt, r)?,
     }
-    text(b"\n");
+    text(rt, b"\n")
 }
 
-fn numbered(label: &[u8], number: u64, by: Moved) {
-    labelled(label, number);
-    moved(by);
+fn numbered(rt: &impl Print, label: &[u8], number: u64, by: Moved) -> io::Result<()> {
+    labelled(rt, label, number)?;
+    moved(rt, by)
 }
 
-fn entered(answer: Entered) {
+fn entered(rt: &impl Print, answer: Entered) -> io::Result<()> {
     match answer {
-        Entered::New(number, by) => numbered(b" new ", number, by),
-        Entered::Again(number, by) => numbered(b" again ", number, by),
-        Entered::Known(number, by) => numbered(b" known ", number, by),
-        Entered::Refused(r) => refused(r),
+        Entered::New(number, by) => numbered(rt, b" new ", number, by)?,
+        Entered::Again(number, by) => numbered(rt, b" again ", number, by)?,
+        Entered::Known(number, by) => numbered(rt, b" known ", number, by)?,
+        Entered::Refused(r) => refused(rt, r)?,
     }
-    text(b"\n");
+    text(rt, b"\n")
 }
 
-fn undone(answer: Undone) {
+fn undone(rt: &impl Print, answer: Undone) -> io::Result<()> {
     match answer {
-        Undone::Number(number) => labelled(b" ", number),
-        Undone::Refused(r) => refused(r),
+        Undone::Number(number) => labelled(rt, b" ", number)?,
+        Undone::Refused(r) => refused(rt, r)?,
     }
-    text(b"\n");
+    text(rt, b"\n")
 }
 
-fn status(of: u64) {
+fn status(rt: &impl Print, of: u64) -> io::Result<()> {
     if of == ACTIVE as u64 {
-        text(b" active");
+        text(rt, b" active")
     } else {
-        text(b" inactive");
+        text(rt, b" inactive")
     }
 }
 
-fn read(image: &[u8], answer: RecordRead) {
+fn read(rt: &impl Print, image: &[u8], answer: RecordRead) -> io::Result<()> {
     match answer {
         RecordRead::Accepted(under) => {
-            status(under.status);
-            labelled(b" ", under.start);
-            labelled(b" ", under.end);
-            labelled(b" at ", under.offset);
-            labelled(b" ", under.length);
-            text(b" ");
-            shown(part(image, under.offset, under.length));
+            status(rt, under.status)?;
+            labelled(rt, b" ", under.start)?;
+            labelled(rt, b" ", under.end)?;
+            labelled(rt, b" at ", under.offset)?;
+            labelled(rt, b" ", under.length)?;
+            text(rt, b" ")?;
+            shown(rt, part(image, under.offset, under.length))?;
         }
-        RecordRead::Refused(r) => refused(r),
+        RecordRead::Refused(r) => refused(rt, r)?,
     }
-    text(b"\n");
+    text(rt, b"\n")
 }
 
 pub fn blank(
+    rt: &impl Print,
     image: &mut [u8],
     residues: u64,
     digest: &[u8],
     records: u64,
     journal: u64,
     pool: u64,
-) {
-    labelled(b"blank ", residues);
-    text(b" ");
-    text(digest);
-    labelled(b" ", records);
-    labelled(b" ", journal);
-    labelled(b" ", pool);
-    done(blank::blank(image, residues, digest, records, journal, pool));
-    left(image);
+) -> io::Result<()> {
+    labelled(rt, b"blank ", residues)?;
+    text(rt, b" ")?;
+    text(rt, digest)?;
+    labelled(rt, b" ", records)?;
+    labelled(rt, b" ", journal)?;
+    labelled(rt, b" ", pool)?;
+    done(
+        rt,
+        blank::blank(image, residues, digest, records, journal, pool),
+    )?;
+    left(rt, image)
 }
 
 pub fn entry(
+    rt: &impl Print,
     image: &mut [u8],
     digest: &[u8],
     reference: &[u8],
     start: u64,
     end: u64,
     replacement: &[u8],
-) {
-    labelled(b"entry ", start);
-    labelled(b" ", end);
-    text(b" ");
-    text(replacement);
-    entered(entry::entry(image, digest, reference, start, end, replacement));
-    left(image);
+) -> io::Result<()> {
+    labelled(rt, b"entry ", start)?;
+    labelled(rt, b" ", end)?;
+    text(rt, b" ")?;
+    text(rt, replacement)?;
+    entered(
+        rt,
+        entry::entry(image, digest, reference, start, end, replacement),
+    )?;
+    left(rt, image)
 }
 
-pub fn withdraw(image: &mut [u8], number: u64) {
-    labelled(b"withdraw ", number);
-    done(register::withdraw(image, number));
-    left(image);
+pub fn withdraw(rt: &impl Print, image: &mut [u8], number: u64) -> io::Result<()> {
+    labelled(rt, b"withdraw ", number)?;
+    done(rt, register::withdraw(image, number))?;
+    left(rt, image)
 }
 
-pub fn undo(image: &mut [u8]) {
-    text(b"undo");
-    undone(register::undo(image));
-    left(image);
+pub fn undo(rt: &impl Print, image: &mut [u8]) -> io::Result<()> {
+    text(rt, b"undo")?;
+    undone(rt, register::undo(image))?;
+    left(rt, image)
 }
 
-pub fn seal(image: &mut [u8]) {
-    text(b"seal");
-    done(register::seal(image));
-    left(image);
+pub fn seal(rt: &impl Print, image: &mut [u8]) -> io::Result<()> {
+    text(rt, b"seal")?;
+    done(rt, register::seal(image))?;
+    left(rt, image)
 }
 
-pub fn record(image: &[u8], number: u64) {
-    labelled(b"record ", number);
-    read(image, read_record(image, number));
+pub fn record(rt: &impl Print, image: &[u8], number: u64) -> io::Result<()> {
+    labelled(rt, b"record ", number)?;
+    read(rt, image, read_record(image, number))
 }
 
-pub fn check(image: &[u8]) {
-    text(b"check");
-    done(record_reader::check(image));
+pub fn check(rt: &impl Print, image: &[u8]) -> io::Result<()> {
+    text(rt, b"check")?;
+    done(rt, record_reader::check(image))
 }
 
 // A byte of the image is changed, which is then checked.
-pub fn changed(image: &mut [u8; SIZE], at: usize, byte: u8)
+pub fn changed(rt: &impl Print, image: &mut [u8; SIZE], at: usize, byte: u8) -> io::Result<()>
     requires { at < 160 }
 {
     image[at] = byte;
-    labelled(b"byte ", at as u64);
-    labelled(b" set to ", byte as u64);
-    text(b"\n");
-    left(image);
-    check(image);
+    labelled(rt, b"byte ", at as u64)?;
+    labelled(rt, b" set to ", byte as u64)?;
+    text(rt, b"\n")?;
+    left(rt, image)?;
+    check(rt, image)
 }

@@ -6,7 +6,9 @@ mod calls;
 mod protein;
 mod worked;
 
-fn main() {
-    worked::lines();
-    protein::lines();
+use std::io;
+
+fn main(rt: HostRuntime) -> io::Result<()> {
+    worked::lines(&rt)?;
+    protein::lines(&rt)
 }

@@ -1,21 +1,40 @@
-// The stretches that `text_reader` hands back, each passed on to C's `write` as it lies. A promise speaks of a
-// stretch's bytes and not of its place: tests/stretches has a `write` of its own, which sees that.
+// The stretches that `text_reader` hands back, each told to C as the place where it lies and its length. A promise
+// speaks of a stretch's bytes and not of its place: tests/stretches looks at that.
 #![tactic(auto)]
 
-use libc::STDOUT_FILENO;
+ghost use Rattle.std.specs.Prelude.{◌≡◌, length};
+
+use std::ptr;
 use text_reader::{digest_of, location_of, sequence_of};
 
-#[unsafe(no_mangle)]
-pub extern "C" fn handed_digest(text: &[u8]) {
-    libc::write(STDOUT_FILENO, digest_of(text));
+// Where a stretch lies: its start, seen as the place of no bytes, and its length.
+#[repr(C)]
+pub struct Handed {
+    pub start: *const [u8; 0],
+    pub length: usize,
+}
+
+fn hand(stretch: &[u8], to: &mut Handed)
+    ensures { to.new.length ≡ length stretch.now }
+{
+    to.length = stretch.len();
+    match stretch.first_chunk::<0>() {
+        Some(start) => to.start = ptr::from_ref(start),
+        None => to.start = ptr::null::<[u8; 0]>(),
+    }
 }
 
 #[unsafe(no_mangle)]
-pub extern "C" fn handed_location(text: &[u8]) {
-    libc::write(STDOUT_FILENO, location_of(text));
+pub extern "C" fn handed_digest(text: &[u8], to: &mut Handed) {
+    hand(digest_of(text), to);
 }
 
 #[unsafe(no_mangle)]
-pub extern "C" fn handed_sequence(text: &[u8]) {
-    libc::write(STDOUT_FILENO, sequence_of(text));
+pub extern "C" fn handed_location(text: &[u8], to: &mut Handed) {
+    hand(location_of(text), to);
+}
+
+#[unsafe(no_mangle)]
+pub extern "C" fn handed_sequence(text: &[u8], to: &mut Handed) {
+    hand(sequence_of(text), to);
 }
