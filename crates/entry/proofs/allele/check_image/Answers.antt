@@ -1,7 +1,7 @@
 -- Each return is what the grounds say, by the tests that led there.
 use native.Mathlib.Omega.{arith}
 use mathlib.Core.Path.{◌∙◌, sym}
-use borrow.Author.Tests.{not-true, not-false, eq-eqb, ne_eqb}
+use borrow.Author.Tests.{eq-eqb, ne_eqb}
 use Rattle.image.proofs.WellFormed.{well_formed-formed}
 use Rattle.entry.specs.Calls.{image_grounds}
 use Rattle.entry.proofs.allele.check_image.Goals as goal

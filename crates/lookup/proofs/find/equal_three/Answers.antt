@@ -2,7 +2,6 @@
 use native.Mathlib.Omega.{arith}
 use mathlib.Core.Path.{◌∙◌, sym}
 use lib.Seq.{length-take-le}
-use borrow.Author.Tests.{not-true, not-false}
 use Rattle.lookup.proofs.Joined.{same-three}
 use Rattle.lookup.proofs.find.equal_three.Goals as goal
 

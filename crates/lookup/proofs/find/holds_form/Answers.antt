@@ -1,6 +1,5 @@
 -- The numbers, then the replacement.
 use mathlib.Core.Path.{◌∙◌, sym}
-use borrow.Author.Tests.{not-true, not-false}
 use Rattle.lookup.proofs.Held.{holds-steps}
 use Rattle.lookup.proofs.find.holds_form.Goals as goal
 

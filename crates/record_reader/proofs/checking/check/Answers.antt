@@ -1,6 +1,5 @@
 -- 10.
 use mathlib.Core.Path.{◌∙◌, sym}
-use borrow.Author.Tests.{not-true, not-false}
 use Rattle.record_reader.proofs.checking.check.Goals as goal
 
 pub returns-then-not-well_formed : goal.returns-then-not-well_formed

@@ -1,7 +1,7 @@
 -- 10, then 16: each return is what the grounds say, by the tests that led there.
 use native.Mathlib.Omega.{arith}
 use mathlib.Core.Path.{◌∙◌, sym}
-use borrow.Author.Tests.{not-true, not-false, eq-eqb, ne_eqb, lt-ltb, le-ltb}
+use borrow.Author.Tests.{eq-eqb, ne_eqb, lt-ltb, le-ltb}
 use Rattle.image.proofs.WellFormed.{header-room}
 use Rattle.record_reader.specs.Calls.{number_grounds}
 use Rattle.record_reader.proofs.reading.check_number.Goals as goal

@@ -1,7 +1,7 @@
 -- 10, then 18.
 use native.Mathlib.Omega.{arith}
 use mathlib.Core.Path.{◌∙◌, sym}
-use borrow.Author.Tests.{not-true, not-false, eq-eqb, ne_eqb}
+use borrow.Author.Tests.{eq-eqb, ne_eqb}
 use Rattle.register.specs.Calls.{undo_grounds}
 use Rattle.image.proofs.WellFormed.{header-room}
 use Rattle.register.proofs.undoing.check_undo.Goals as goal

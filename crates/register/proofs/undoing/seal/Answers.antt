@@ -1,7 +1,6 @@
 -- The test, and the count after it.
 use native.Mathlib.Omega.{arith}
 use mathlib.Core.Path.{refl, ◌∙◌, sym}
-use borrow.Author.Tests.{not-true, not-false}
 use Rattle.changes.specs.Changes.{sealed}
 use Rattle.register.specs.Calls.{Seals}
 use Rattle.refusal.proofs.Keeps.{keeps-refused, keeps-accepted}
