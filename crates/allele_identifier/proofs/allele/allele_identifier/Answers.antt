@@ -5,7 +5,7 @@ use Rattle.allele_identifier.proofs.allele.allele_identifier.Goals as goal
 pub identify_form-written-requires : goal.identify_form-written-requires
 identify_form-written-requires c =
     let e = c.in-Accepted.ensures in
-    (allele-fits _ _ _ _ _ _ e, allele-digest _ _ _ _ _ _ e)
+    record { fits = allele-fits _ _ _ _ _ _ e; digest_len = allele-digest _ _ _ _ _ _ e }
 
 pub returns-in-Accepted : goal.returns-in-Accepted
 returns-in-Accepted c =

@@ -17,7 +17,7 @@ write_allele-requires c =
     let second = c.replacement_kept.ensures in
     let long = pieces-long _ _ _ c.requires.fits first second c.reference_after.ensures in
     let located : length c.location_digest-location.result ≡ 32 = search rules in
-    omega (arith, tail-room c.args.out.now c.args.at _ (le-ltb _ _ c.requires.digest_len.1))
+    omega (arith, tail-room c.args.out.now c.args.at _ (le-ltb _ _ c.requires.around_sequence_in_bounds))
 
 pub returns : goal.returns
 unfolding text_of
@@ -28,4 +28,4 @@ returns c =
     let long = allele-long _ _ c.args.w c.requires.fits c.args.digest.now in
     let located = c.location_digest-location.ensures in
     rw (c.write_allele.ensures.laid, located, e)
-    (over-tail-front c.args.out.now c.args.at _ (omega (arith, c.requires.digest_len.1)))
+    (over-tail-front c.args.out.now c.args.at _ (omega (arith, c.requires.around_sequence_in_bounds)))
