@@ -47,9 +47,10 @@ module _ {v w : View} {i : ℕ} (keeps : KeepsOthers v w i) (same : w.Live i →
 
   pub numbers-kept : {h : List Event} (e : Event) → Numbers h v → ((j : ℕ) → meant (e ∷ h) j ≡ meant h j) → Stood v e
       → Numbers (e ∷ h) w
-  numbers-kept e n means stood =
+  numbers-kept {h = h} e n means stood =
       record {
-        issued = λ j live. inr (rw (stays j live) (n.issued j (lived-all j live)));
+        issued = λ j live. inr (subst (λ (u : List ℕ). Occurs (entry new j u) h) (sym (stays j live))
+            (n.issued j (lived-all j live)));
         meaning = λ j live. means j ∙ n.meaning j (lived-all j live) ∙ sym (stays j live);
         answered = λ way j t. ⊎_elim
             (λ last. stood_on keeps j t (subst (Stood v) (sym last) stood))
@@ -83,7 +84,7 @@ module _ {h : List Event} {v w : View} {i : ℕ} {t : List ℕ} (n : Numbers h v
       record {
         issued = λ j live. issued-or j live
             (λ e s. inl (cc (e, s)))
-            (λ apart before s. inr (rw s (n.issued j before)));
+            (λ apart before s. inr (subst (λ (u : List ℕ). Occurs (entry new j u) h) (sym s) (n.issued j before)));
         meaning = λ j live. issued-or j live
             (λ e s. rw (eq-eqb i j (sym e)) (sym s))
             (λ apart before s. rw (ne_eqb i j (λ e. apart (sym e))) (n.meaning j before ∙ sym s));

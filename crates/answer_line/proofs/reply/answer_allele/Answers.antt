@@ -6,7 +6,7 @@ use Rattle.answer_line.proofs.reply.answer_allele.Goals as goal
 
 pub answer_form-requires : goal.answer_form-requires
 answer_form-requires c =
-    (clean-fits _ _ _ _ _ c.in-Accepted.ensures, c.requires)
+    record { fits = clean-fits _ _ _ _ _ c.in-Accepted.ensures; room = c.requires }
 
 pub returns-in-Accepted : goal.returns-in-Accepted
 returns-in-Accepted c =

@@ -8,19 +8,19 @@ pub put_decimal-requires : goal.put_decimal-requires
 put_decimal-requires c =
     omega (
       arith,
-      c.put-digits.auto.0,
+      c.put-digits.auto.to,
       c.put-digits.ensures.next,
       decimal-within c.args.n c.ranges.n.fits,
       c.requires,
     )
 
 pub returns : goal.returns
-returns c = (
-  wrote_then _ _ _ _ _ _ _ _ (omega (arith, c.requires)) c.put-digits.ensures c.put_decimal.ensures,
-  omega (
+returns c = record {
+  wrote = wrote_then _ _ _ _ _ _ _ _ (omega (arith, c.requires)) c.put-digits.ensures c.put_decimal.ensures;
+  upper_bound = omega (
     arith,
     c.put-digits.ensures.next,
     c.put_decimal.ensures.next,
     decimal-within c.args.n c.ranges.n.fits,
-  ),
-)
+  );
+}

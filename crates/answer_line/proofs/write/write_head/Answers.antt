@@ -35,11 +35,11 @@ put-requires c =
     )
 
 pub returns : goal.returns
-returns c = (
-  wrote_then _ 0 _ _ _ _ _ _ (omega arith) c.put_decimal-a.ensures
+returns c = record {
+  wrote = wrote_then _ 0 _ _ _ _ _ _ (omega arith) c.put_decimal-a.ensures
       (wrote_then _ _ _ _ _ _ _ _ c.put_decimal-a.ensures.room c.put_after-b.ensures.wrote
-      (wrote_then _ _ _ _ _ _ _ _ c.put_after-b.ensures.wrote.room c.put_word-c.ensures.wrote c.put.ensures)),
-  omega (
+      (wrote_then _ _ _ _ _ _ _ _ c.put_after-b.ensures.wrote.room c.put_word-c.ensures.wrote c.put.ensures));
+  upper_bound = omega (
     arith,
     c.put.ensures.next,
     c.put_word-c.ensures.upper_bound,
@@ -47,5 +47,5 @@ returns c = (
     c.put_decimal-a.ensures.next,
     decimal-within c.args.start c.ranges.start.fits,
     c.requires.1,
-  ),
-)
+  );
+}

@@ -10,7 +10,7 @@ use Rattle.blank.proofs.header.blank.Goals as goal
 pub write_header-requires : goal.write_header-requires
 write_header-requires c = let e = c.in-Accepted.ensures in
     let k = accepted-blankable _ _ _ _ _ _ (outcome-accepted (verdict (blank_grounds _ _ _ _ _ _)) e) in
-    ((k.headed, k.long), (k.records-limit, k.journal-limit))
+    record { header_size_in_bounds = (k.headed, k.long); records_le_count_limit = (k.records-limit, k.journal-limit) }
 
 pub returns-in-Accepted : goal.returns-in-Accepted
 returns-in-Accepted c =

@@ -10,13 +10,13 @@ pub put_record-requires : goal.put_record-requires
 put_record-requires c =
     let next = c.read_number-number.result + 1 in
     let read = c.read_number-number.ensures.0 in
-    let inside = status-inside _ c.requires.header next (omega arith) (omega (arith, read, c.requires.length_value.1.0)) in
+    let inside = status-inside _ c.requires.header next (omega arith) (omega (arith, read, c.requires.image_bound.0)) in
     omega (arith, c.record_at.ensures.0, inside)
 
 pub journal-requires : goal.journal-requires
 journal-requires c =
     let h = c.requires.header in
-    let p = c.requires.length_value.1 in
+    let p = c.requires.image_bound in
     let at = c.read_number-at.ensures.0 in
     let count = c.read_number-count.ensures.0 in (
       omega (arith, h.after-header, at),
@@ -28,9 +28,9 @@ journal-requires c =
         h.whole,
         at,
         count,
-        c.put_counts.auto.0,
-        c.put_replacement.auto.0,
-        c.put_record.auto.0,
+        c.put_counts.auto.image,
+        c.put_replacement.auto.image,
+        c.put_record.auto.image,
       ),
     )
 
@@ -43,7 +43,7 @@ returns c =
       c.put_record.ensures,
     )
     (numbered-as c.args.image.now c.args.form c.args.a.now c.args.b.now c.args.c.now
-    _ _ _ _ _ _ c.requires.length_value.0
+    _ _ _ _ _ _ c.requires.length_value
     (ap (λ (n : ℕ). n + 1) c.read_number-number.ensures.0)
     c.read_number-used.ensures.0
     c.read_number-pool.ensures.0

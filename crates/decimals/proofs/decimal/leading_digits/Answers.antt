@@ -1,10 +1,8 @@
-use Prim.Native.Nat.{◌-◌}
 use native.Mathlib.Omega.{arith}
-use mathlib.Core.Logic.{⊎_elim}
-use lib.ListN.{length}
 use borrow.Author.Tests.{ltb-true, ltb-false, eqb-true, eqb-false}
 use Rattle.decimals.proofs.Leads.{read_none, read-on, read-end}
 use Rattle.decimals.proofs.decimal.leading_digits.Goals as goal
+use Rattle.decimals.proofs.decimal.leading_digits.Goals.{then-c-lt48-via-then-c-lt48, then-c-lt48-via-else-c-lt48+then-c-gt57, then-most-d-via-then-most-d, then-most-d-via-else-most-d+then-most-d-2, else-length-gt0-via-then-length-gt0+else-number-eq0, else-length-gt0-via-else-length-gt0}
 
 pub loop-length-init : goal.loop-length-init
 loop-length-init c = read_none _ _
@@ -15,7 +13,10 @@ bounds-s-length c = omega arith
 pub returns-then-c-lt48 : goal.returns-then-c-lt48
 returns-then-c-lt48 c = let l = c.loop-length in
     read-end _ _ l.length l.number l.invariant
-    (λ h t. ⊎_elim (λ w. omega arith) (λ w. omega (arith, ltb-true)) c.if-c-lt48.branch)
+    (λ h t. elim c.then-c-lt48.branch [
+      | then-c-lt48-via-then-c-lt48 w ↦ omega arith
+      | then-c-lt48-via-else-c-lt48+then-c-gt57 w ↦ omega (arith, ltb-true)
+    ])
 
 pub returns-then-number-eq0 : goal.returns-then-number-eq0
 returns-then-number-eq0 c = let l = c.loop-length in
@@ -27,7 +28,10 @@ overflow_cast-d c = omega (arith, ltb-false)
 pub returns-then-most-d : goal.returns-then-most-d
 returns-then-most-d c = let l = c.loop-length in
     read-end _ _ l.length l.number l.invariant
-    (λ h t. ⊎_elim (λ w. omega arith) (λ w. omega (arith, ltb-true)) c.if-most-d.branch)
+    (λ h t. elim c.then-most-d.branch [
+      | then-most-d-via-then-most-d w ↦ omega arith
+      | then-most-d-via-else-most-d+then-most-d-2 w ↦ omega (arith, ltb-true)
+    ])
 
 pub overflow_mul-number : goal.overflow_mul-number
 overflow_mul-number c = omega (arith, ltb-false)
@@ -47,7 +51,10 @@ loop-length-preserved c = let l = c.loop-length in
     (record {
       least = omega arith;
       greatest = omega (arith, ltb-false);
-      leads = λ h. ⊎_elim (λ w. omega (arith, eqb-false)) (λ w. omega arith) c.if-length-gt0.branch;
+      leads = λ h. elim c.else-length-gt0.branch [
+        | else-length-gt0-via-then-length-gt0+else-number-eq0 w ↦ omega (arith, eqb-false)
+        | else-length-gt0-via-else-length-gt0 w ↦ omega arith
+      ];
       small = omega (arith, ltb-false);
     })
 

@@ -5,7 +5,7 @@ use Rattle.decimals.proofs.Leads.{Read}
 use Rattle.decimals.proofs.decimal.leading_digits.Given as goal
 
 abbrev pub invariant-loop-length : goal.invariant-loop-length
-invariant-loop-length l = Read l.most l.s l.k l.n
+invariant-loop-length l = Read l.most l.s l.length l.number
 
 abbrev pub decreases-loop-length : goal.decreases-loop-length
-decreases-loop-length l = length l.s - l.k
+decreases-loop-length l = length l.s - l.length

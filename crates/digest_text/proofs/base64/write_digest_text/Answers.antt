@@ -1,4 +1,3 @@
-use Prim.Native.Nat.{◌-◌}
 use native.Mathlib.Omega.{arith}
 use mathlib.Core.Path.{◌≡◌, refl, sym, ◌∙◌, ap}
 use lib.ListN.{length}
@@ -34,10 +33,10 @@ pub overflow_mul-i : goal.overflow_mul-i
 overflow_mul-i c = omega arith
 
 pub slice_bounds-copy_at-end : goal.slice_bounds-copy_at-end
-slice_bounds-copy_at-end c = sym (ap length c.Group-of.ensures)
+slice_bounds-copy_at-end c = sym (ap length c.group_of-group.ensures)
 
 pub copy_at-requires : goal.copy_at-requires
-copy_at-requires c = omega (arith, ap length c.Group-of.ensures)
+copy_at-requires c = omega (arith, ap length c.group_of-group.ensures)
 
 pub overflow_add-i : goal.overflow_add-i
 overflow_add-i c = omega arith
@@ -50,14 +49,11 @@ loop-i-preserved c =
     let l = c.loop-i in (
       omega arith,
       (
-        omega (arith, c.copy_at.auto.0),
+        omega arith,
         c.copy_at.ensures
-            ∙ rw (l.invariant.1.1, c.Group-of.ensures) (encode-turn _ _ l.i (omega arith)),
+            ∙ rw (l.invariant.1.1, c.group_of-group.ensures) (encode-turn _ _ l.i (omega arith)),
       ),
     )
-
-pub shape_of-out : goal.shape_of-out
-shape_of-out c = omega arith
 
 pub returns : goal.returns
 unfolding digest_text

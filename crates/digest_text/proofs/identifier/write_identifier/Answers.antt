@@ -11,7 +11,7 @@ pub returns : goal.returns
 returns c =
     let text = digest_text c.args.digest.now in
     rw c.write_digest_text.ensures
-    (over-tail-front c.copy.new.0 (length c.args.prefix.now) text
+    (over-tail-front _ (length c.args.prefix.now) text
     (omega (arith, length-digest_text c.args.digest.now c.requires.in_bounds))
     ∙ rw c.copy.ensures
     (over-next c.args.out.now 0 (length c.args.prefix.now) c.args.prefix.now text (omega arith)

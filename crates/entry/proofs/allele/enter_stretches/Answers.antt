@@ -8,8 +8,12 @@ pub enter_form-requires : goal.enter_form-requires
 enter_form-requires c =
     let first = c.reference_before.ensures in
     let second = c.replacement_kept.ensures in
-    let long = pieces-long _ _ _ c.requires.image_value.1 first second c.reference_after.ensures in
-    (c.requires.header, (c.requires.image_value.0, ap (λ (f : Form). f.length) c.form_of.ensures ∙ sym long))
+    let long = pieces-long _ _ _ c.requires.fits first second c.reference_after.ensures in
+    record {
+      header = c.requires.header;
+      image_value = c.requires.image_value;
+      length_value = ap (λ (f : Form). f.length) c.form_of.ensures ∙ sym long;
+    }
 
 pub returns : goal.returns
 returns c =

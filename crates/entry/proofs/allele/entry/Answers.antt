@@ -6,7 +6,7 @@ use Rattle.entry.proofs.allele.entry.Goals as goal
 pub enter_allele-requires : goal.enter_allele-requires
 enter_allele-requires c = let e = image-formed _ _ _
     c.in-Accepted.ensures in
-    ((well_formed-formed _ e).header, e)
+    record { header = (well_formed-formed _ e).header; image_value = e }
 
 pub returns-in-Accepted : goal.returns-in-Accepted
 returns-in-Accepted c =

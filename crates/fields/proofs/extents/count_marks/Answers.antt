@@ -1,8 +1,7 @@
-use Prim.Native.Nat.{◌-◌}
 use native.Mathlib.Omega.{arith}
-use mathlib.Core.Logic.{⊎_elim}
 use Rattle.fields.proofs.Pieces.{count-mark, count-other, count-end}
 use Rattle.fields.proofs.extents.count_marks.Goals as goal
+use Rattle.fields.proofs.extents.count_marks.Goals.{then-s-i, else-s-i}
 
 pub loop-i-init : goal.loop-i-init
 loop-i-init c = (omega arith, omega arith, omega arith)
@@ -22,12 +21,14 @@ loop-i-smaller c = omega arith
 pub loop-i-preserved : goal.loop-i-preserved
 loop-i-preserved c =
     let s = c.args in
-    ⊎_elim
-    (λ w. let e = count-mark s.byte s.s.now c.loop-i.i (omega arith) w.0.taken in
-    (omega arith, omega arith, omega arith))
-    (λ w. let e = count-other s.byte s.s.now c.loop-i.i (omega arith) w.0.left in
-    (omega arith, omega arith, omega arith))
-    c.if-s-i.branch
+    elim c.if-s-i.branch [
+      | then-s-i w ↦
+          let e = count-mark s.byte s.s.now c.loop-i.i (omega arith) w.if-s-i.true in
+          (omega arith, omega arith, omega arith)
+      | else-s-i w ↦
+          let e = count-other s.byte s.s.now c.loop-i.i (omega arith) w.if-s-i.false in
+          (omega arith, omega arith, omega arith)
+    ]
 
 pub returns : goal.returns
 returns c =

@@ -10,7 +10,11 @@ use Rattle.form_entry.proofs.form.enter_new.Goals as goal
 
 pub number_form-requires : goal.number_form-requires
 number_form-requires c =
-    (c.requires.header, (c.requires.length_value, new-room _ _ c.in-Accepted.ensures))
+    record {
+      header = c.requires.header;
+      length_value = c.requires.length_value;
+      image_bound = new-room _ _ c.in-Accepted.ensures;
+    }
 
 pub returns-in-Accepted : goal.returns-in-Accepted
 returns-in-Accepted c =

@@ -8,7 +8,11 @@ use Rattle.form_entry.proofs.form.reenter.Goals as goal
 
 pub change-requires : goal.change-requires
 change-requires c =
-    (c.requires.header, (c.requires.le_number, again-room _ c.in-Accepted.ensures))
+    record {
+      header = c.requires.header;
+      le_number = c.requires.le_number;
+      image_bound = again-room _ c.in-Accepted.ensures;
+    }
 
 pub returns-in-Accepted : goal.returns-in-Accepted
 unfolding reentered

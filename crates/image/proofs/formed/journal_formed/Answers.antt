@@ -1,9 +1,6 @@
-use Prim.Native.Nat.{◌-◌}
 use native.Mathlib.Numerals.{add-one}
 use native.Mathlib.Omega.{arith}
 use mathlib.Core.Path.{◌≡◌, refl, ◌∙◌, sym}
-use mathlib.Core.Bool.{true}
-use borrow.Author.Tests.{not-true, not-false}
 use Rattle.stretch.specs.Below.{below}
 use Rattle.stretch.proofs.Below.{below_next, below_fails}
 use Rattle.image.specs.Fields.{journal_count}
@@ -22,7 +19,7 @@ returns-then-not-between c =
     let journal = c.read_number-journal.ensures.0 in
     let issued = c.read_number-issued.ensures.0 in
     let tested = entry_at b c.loop-passed.passed _ _ _ journal c.read_number.ensures.0 issued in
-    let bad = sym tested ∙ sym c.between.ensures ∙ not-true _ c.if-not-between.true in
+    let bad = sym tested ∙ sym c.between.ensures ∙ c.if-not-between.true in
     sym (below_fails (entry_good b) (journal_count b) c.loop-passed.passed (omega arith) bad)
 
 pub loop-passed-preserved : goal.loop-passed-preserved
@@ -31,7 +28,7 @@ loop-passed-preserved c =
     let journal = c.read_number-journal.ensures.0 in
     let issued = c.read_number-issued.ensures.0 in
     let tested = entry_at b c.loop-passed.passed _ _ _ journal c.read_number.ensures.0 issued in
-    let good = sym tested ∙ sym c.between.ensures ∙ not-false _ c.if-not-between.false in
+    let good = sym tested ∙ sym c.between.ensures ∙ c.if-not-between.false in
     (omega arith, rw (add-one c.loop-passed.passed) (below_next (entry_good b) c.loop-passed.passed c.loop-passed.invariant.1 good))
 
 pub returns : goal.returns

@@ -1,9 +1,8 @@
-use Prim.Native.Nat.{◌+◌, ◌-◌}
+use Prim.Native.Nat.{◌+◌}
 use native.Mathlib.Numerals.{add-one}
 use native.Mathlib.Omega.{arith}
 use mathlib.Core.Path.{◌≡◌, refl, ◌∙◌, sym}
 use mathlib.Core.Bool.{true}
-use borrow.Author.Tests.{not-true, not-false}
 use Rattle.stretch.specs.Below.{below}
 use Rattle.stretch.proofs.Below.{below_next}
 use Rattle.image.specs.Fields.{issued}
@@ -30,7 +29,7 @@ returns-then-not-record_placed c =
     c.read_number-reference.ensures.0 c.loop-passed.invariant.1 in
     let count = c.read_number-issued.ensures.0 in
     sym (records-bad b c.loop-passed.passed (omega arith)
-    (sym tested ∙ sym c.record_placed.ensures ∙ not-true _ c.if-not-record_placed.true))
+    (sym tested ∙ sym c.record_placed.ensures ∙ c.if-not-record_placed.true))
 
 pub read_number-residues-requires : goal.read_number-residues-requires
 read_number-residues-requires c =
@@ -45,7 +44,7 @@ loop-passed-preserved c =
     let place = c.record_at-at.ensures.0 in
     let tested = placed_at b c.loop-passed.passed _ _ _ place c.read_number-reference.ensures.0 c.loop-passed.invariant.1 in
     let good : placed b c.loop-passed.passed ≡ true = sym tested ∙ sym c.record_placed.ensures
-    ∙ not-false _ c.if-not-record_placed.false in (
+    ∙ c.if-not-record_placed.false in (
       omega arith,
       rw c.read_number-residues.ensures.0 (lengths-next b c.loop-passed.passed _ _ place c.loop-passed.invariant.1),
       omega arith,

@@ -3,7 +3,6 @@ use Prim.Native.Nat.{◌*◌, ◌-◌, ◌^◌, ◌≤◌}
 use mathlib.Core.Path.{◌≡◌}
 use mathlib.Core.Bool.{true}
 use Rattle.stretch.specs.Below.{below}
-use Rattle.image.specs.Fields.{issued}
 use Rattle.image.specs.Formed.{lengths}
 use Rattle.image.proofs.Pool.{placed}
 use Rattle.image.proofs.records.records_formed.Given as goal

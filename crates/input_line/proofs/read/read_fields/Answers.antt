@@ -17,15 +17,15 @@ pub returns-in_default : goal.returns-in_default
 returns-in_default c =
     reads_nothing _ (three-fields _ c.args.first c.args.second c.requires c.if-third-line.false
     c.next.result c.next.ensures c.if-next-line.false
-    ∙ rw (sym c.read_decimal.ensures ∙ c.in_default.is))
+    ∙ rw (sym c.in_default.ensures))
 
 pub returns-in_default-read_decimal : goal.returns-in_default-read_decimal
 returns-in_default-read_decimal c =
     reads_nothing _ (three-fields _ c.args.first c.args.second c.requires c.if-third-line.false
     c.next.result c.next.ensures c.if-next-line.false
     ∙ rw (
-      sym c.read_decimal.ensures ∙ c.in-Is.is,
-      sym c.read_decimal-2.ensures ∙ c.in_default-read_decimal.is,
+      sym c.in-Is.ensures,
+      sym c.in_default-read_decimal.ensures,
     ))
 
 pub returns : goal.returns
@@ -35,8 +35,8 @@ returns c =
           c.requires c.if-third-line.false c.next.result
           c.next.ensures c.if-next-line.false
           ∙ rw (
-            sym c.read_decimal.ensures ∙ c.in-Is.is,
-            sym c.read_decimal-2.ensures ∙ c.in-Is-read_decimal.is,
+            sym c.in-Is.ensures,
+            sym c.in-Is-read_decimal.ensures,
             ← c.replacement_from-from.ensures.0,
           ));
       inside = c.replacement_from-from.ensures.1;

@@ -15,7 +15,7 @@ location_hash-hash-requires c = output-digest _ _ _ _ _ _ _ c.in-Accepted.ensure
 pub place_identifier-requires : goal.place_identifier-requires
 place_identifier-requires c =
     let long : length c.location_hash-hash.result ≡ 64 = search rules in
-    (output-room _ _ _ _ _ _ _ c.in-Accepted.ensures, omega arith)
+    record { digest_length_in_bounds = output-room _ _ _ _ _ _ _ c.in-Accepted.ensures; in_bounds = omega arith }
 
 pub returns-in-Accepted : goal.returns-in-Accepted
 unfolding location_identifier sha512t24u

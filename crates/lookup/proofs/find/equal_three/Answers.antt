@@ -2,7 +2,6 @@
 use native.Mathlib.Omega.{arith}
 use mathlib.Core.Path.{◌∙◌, sym}
 use lib.Seq.{length-take-le}
-use borrow.Author.Tests.{not-true, not-false}
 use Rattle.lookup.proofs.Joined.{same-three}
 use Rattle.lookup.proofs.find.equal_three.Goals as goal
 
@@ -14,16 +13,16 @@ pub returns-then-not-equal : goal.returns-then-not-equal
 returns-then-not-equal c =
     let l = c.args in
     rw (same-three l.s.now l.a.now l.b.now l.c.now c.requires)
-    (rw (sym c.equal.ensures ∙ not-true _ c.if-not-equal.true))
+    (rw (sym c.equal.ensures ∙ c.if-not-equal.true))
 
 pub returns-then-not-equal-2 : goal.returns-then-not-equal-2
 returns-then-not-equal-2 c =
     let l = c.args in
     rw (same-three l.s.now l.a.now l.b.now l.c.now c.requires)
     (rw (
-      sym c.equal.ensures ∙ not-false _ c.if-not-equal.false,
+      sym c.equal.ensures ∙ c.if-not-equal.false,
       sym c.equal-2.ensures
-          ∙ not-true _ c.if-not-equal-2.true,
+          ∙ c.if-not-equal-2.true,
     ))
 
 pub returns : goal.returns
@@ -31,7 +30,7 @@ returns c =
     let l = c.args in
     rw (same-three l.s.now l.a.now l.b.now l.c.now c.requires)
     (rw (
-      sym c.equal.ensures ∙ not-false _ c.if-not-equal.false,
+      sym c.equal.ensures ∙ c.if-not-equal.false,
       sym c.equal-2.ensures
-          ∙ not-false _ c.if-not-equal-2.false,
+          ∙ c.if-not-equal-2.false,
     ) c.equal-3.ensures)

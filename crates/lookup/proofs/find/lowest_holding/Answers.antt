@@ -1,4 +1,3 @@
-use Prim.Native.Nat.{◌-◌}
 use native.Mathlib.Omega.{arith}
 use mathlib.Core.Path.{◌≡◌, refl, ◌∙◌, sym}
 use Rattle.image.specs.Fields.{issued}
@@ -12,7 +11,12 @@ loop-number-init c = (omega arith, refl)
 
 pub holds_form-requires : goal.holds_form-requires
 holds_form-requires c =
-    (c.requires.header, (c.requires.image_value.0, ((omega arith, omega (arith, c.read_number-issued.ensures.0)), c.requires.image_value.1)))
+    record {
+      header = c.requires.header;
+      image_value = c.requires.image_value;
+      le_number = (omega arith, omega (arith, c.read_number-issued.ensures.0));
+      length_value = c.requires.length_value;
+    }
 
 pub returns-then-holds_form : goal.returns-then-holds_form
 unfolding lowest_holding

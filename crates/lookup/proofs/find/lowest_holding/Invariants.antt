@@ -1,7 +1,6 @@
 -- The loop's invariant: no number up to here holds the form.
 use Prim.Native.Nat.{◌-◌, ◌≤◌}
 use mathlib.Core.Path.{◌≡◌}
-use Rattle.image.specs.Fields.{issued}
 use Rattle.lookup.specs.Lookup.{asked, holds, lowest}
 use Rattle.lookup.proofs.find.lowest_holding.Given as goal
 

@@ -9,7 +9,7 @@ use Rattle.record_reader.proofs.reading.read_record.Goals as goal
 pub record_of-requires : goal.record_of-requires
 record_of-requires c = let e = c.in-Accepted.ensures in
     let k = accepted-issued _ _ (outcome-accepted (verdict (number_grounds _ _)) e) in
-    ((well_formed-formed _ k.formed).header, (k.from, k.to))
+    record { header = (well_formed-formed _ k.formed).header; le_number = (k.from, k.to) }
 
 pub returns-in-Accepted : goal.returns-in-Accepted
 returns-in-Accepted c = let e = c.in-Accepted.ensures in

@@ -12,7 +12,7 @@ use Rattle.register.proofs.undoing.undo.Goals as goal
 pub undo_latest-requires : goal.undo_latest-requires
 undo_latest-requires c = let e = c.in-Accepted.ensures in
     let u = accepted-undoable _ (outcome-accepted (verdict (undo_grounds _)) e) in
-    ((well_formed-formed _ u.formed).header, (u.formed, u.some))
+    record { header = (well_formed-formed _ u.formed).header; image_value = u.formed; bound = u.some }
 
 pub returns-in-Accepted : goal.returns-in-Accepted
 unfolding Undoes

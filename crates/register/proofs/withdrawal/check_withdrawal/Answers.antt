@@ -10,7 +10,7 @@ use Rattle.register.proofs.withdrawal.check_withdrawal.Goals as goal
 pub check_active-requires : goal.check_active-requires
 check_active-requires c = let e = c.in-Accepted.ensures in
     let k = accepted-issued _ _ (outcome-accepted (verdict (number_grounds _ _)) e) in
-    ((well_formed-formed _ k.formed).header, (k.from, k.to))
+    record { header = (well_formed-formed _ k.formed).header; le_number = (k.from, k.to) }
 
 pub returns-in-Accepted : goal.returns-in-Accepted
 unfolding withdrawal_grounds

@@ -12,7 +12,11 @@ use Rattle.register.proofs.withdrawal.withdraw.Goals as goal
 pub change-requires : goal.change-requires
 change-requires c = let e = c.in-Accepted.ensures in
     let w = accepted-withdrawable _ _ (outcome-accepted (verdict (withdrawal_grounds _ _)) e) in
-    ((well_formed-formed _ w.issued.formed).header, ((w.issued.from, w.issued.to), w.room))
+    record {
+      header = (well_formed-formed _ w.issued.formed).header;
+      le_number = (w.issued.from, w.issued.to);
+      image_bound = w.room;
+    }
 
 pub returns-in-Accepted : goal.returns-in-Accepted
 unfolding Withdraws withdrawn

@@ -26,7 +26,7 @@ pub compress-s-requires : goal.compress-s-requires
 compress-s-requires c = let e : c.loop-i.i * block_size + block_size - c.loop-i.i * block_size
     ≡ block_size =
     omega arith in
-    (rw (e, length-take, length-drop) (omega arith), c.round_constants-k.ensures)
+    record { block_len = rw (e, length-take, length-drop) (omega arith); k_value = c.round_constants-k.ensures }
 
 pub overflow_add-i : goal.overflow_add-i
 overflow_add-i c = omega arith

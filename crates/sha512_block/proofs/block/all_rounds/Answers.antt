@@ -1,4 +1,4 @@
-use Rattle.std.proofs.Common.{◌≡◌, ◌+◌, ◌-◌, refl, arith}
+use Rattle.std.proofs.Common.{◌≡◌, ◌+◌, refl, arith}
 use Rattle.sha512_block.specs.Block.{rounds}
 use Rattle.sha512_block.proofs.Step.{round-turn}
 use Rattle.sha512_block.proofs.block.all_rounds.Goals as goal
@@ -8,25 +8,25 @@ unfolding rounds
 loop-t-init c = (omega arith, (refl, refl))
 
 pub round_at-s1-requires : goal.round_at-s1-requires
-round_at-s1-requires c = (omega arith, c.requires)
+round_at-s1-requires c = record { t_bound = omega arith; w_len = c.requires.w_len; k_value = c.requires.k_value }
 
 pub overflow_add-t : goal.overflow_add-t
 overflow_add-t c = omega arith
 
 pub round_at-s2-requires : goal.round_at-s2-requires
-round_at-s2-requires c = (omega arith, c.requires)
+round_at-s2-requires c = record { t_bound = omega arith; w_len = c.requires.w_len; k_value = c.requires.k_value }
 
 pub overflow_add-t-in-loop-t : goal.overflow_add-t-in-loop-t
 overflow_add-t-in-loop-t c = omega arith
 
 pub round_at-s3-requires : goal.round_at-s3-requires
-round_at-s3-requires c = (omega arith, c.requires)
+round_at-s3-requires c = record { t_bound = omega arith; w_len = c.requires.w_len; k_value = c.requires.k_value }
 
 pub overflow_add-t-in-loop-t-2 : goal.overflow_add-t-in-loop-t-2
 overflow_add-t-in-loop-t-2 c = omega arith
 
 pub round_at-s-requires : goal.round_at-s-requires
-round_at-s-requires c = (omega arith, c.requires)
+round_at-s-requires c = record { t_bound = omega arith; w_len = c.requires.w_len; k_value = c.requires.k_value }
 
 pub overflow_add-t-in-loop-t-3 : goal.overflow_add-t-in-loop-t-3
 overflow_add-t-in-loop-t-3 c = omega arith

@@ -1,4 +1,4 @@
-use Rattle.std.proofs.Common.{◌≡◌, ◌-◌, take, sym, refl, ◌∙◌, arith, length-set, take_all}
+use Rattle.std.proofs.Common.{◌≡◌, take, sym, refl, ◌∙◌, arith, length-set, take_all}
 use Rattle.sha512_block.proofs.Step.{extend-turn}
 use Rattle.sha512_block.specs.Block.{schedule}
 use Rattle.sha512_block.proofs.block.extend.Goals as goal

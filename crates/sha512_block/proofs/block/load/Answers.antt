@@ -1,4 +1,4 @@
-use Rattle.std.proofs.Common.{◌≡◌, ◌-◌, refl, arith, length-set}
+use Rattle.std.proofs.Common.{◌≡◌, refl, arith, length-set}
 use Rattle.sha512_block.proofs.Step.{load-turn}
 use Rattle.sha512_block.specs.Block.{block_words}
 use Rattle.sha512_block.proofs.block.load.Goals as goal
@@ -36,4 +36,4 @@ loop-t-preserved c = let l = c.loop-t in (
 
 pub returns : goal.returns
 returns c = let e : c.loop-t.t ≡ 16 = omega arith in
-    (c.loop-t.invariant.1.0, rw e at c.loop-t.invariant.1.1)
+    record { w_len_2 = c.loop-t.invariant.1.0; w_after = rw e at c.loop-t.invariant.1.1 }

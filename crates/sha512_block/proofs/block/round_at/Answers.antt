@@ -4,4 +4,4 @@ use Rattle.sha512_block.proofs.block.round_at.Goals as goal
 
 pub returns : goal.returns
 unfolding round_at
-returns c = rw (← c.requires.w_len.1) c.one_round.ensures
+returns c = rw (← c.requires.k_value) c.one_round.ensures

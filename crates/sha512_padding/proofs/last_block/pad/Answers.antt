@@ -1,32 +1,24 @@
 -- Over zeros the head, its mark and the count of bits make the padded message.
-use Prim.Native.Nat.{◌+◌}
-use native.Mathlib.Omega.{arith}
-use mathlib.Core.Path.{◌≡◌, ◌∙◌, ap}
-use lib.ListN.{length, length-set, length-replicate}
+use Rattle.std.proofs.Common.{◌≡◌, ◌∙◌, ℕ, ◌+◌, List, length, replicate, ap, arith, length-set}
+use lib.ListN.{length-replicate}
 use Rattle.sha512_padding.specs.Padding.{padding}
 use Rattle.sha512_padding.proofs.Padding.{length-padding, pad-laid}
 use Rattle.sha512_padding.proofs.last_block.pad.Goals as goal
 
-long : (c : tie.Start) → length c.args.out.now ≡ length c.args.head.now + length (padding c.args.total)
-long c = ap length c.requires.1 ∙ length-replicate _ _
+long : (out head : List ℕ) (n : ℕ) → out ≡ replicate (length head + length (padding n)) 0
+    → length out ≡ length head + length (padding n)
+long out head n e = ap length e ∙ length-replicate _ _
 
 pub copy-requires : goal.copy-requires
-copy-requires c = omega (arith, long c)
+copy-requires c = omega (arith, long _ _ _ c.requires.out_value)
 
 pub bounds-out-head : goal.bounds-out-head
 bounds-out-head c =
-    omega (arith, long c, length-padding c.args.total)
+    omega (arith, long _ _ _ c.requires.out_value, length-padding c.args.total)
 
 pub put_length-requires : goal.put_length-requires
 put_length-requires c =
-    simp length-set (omega (arith, long c, length-padding c.args.total))
-
-pub shape_of-out : goal.shape_of-out
-shape_of-out c = omega (
-  arith,
-  simp length-set at c.put_length.auto.0,
-  c.copy.auto.0,
-)
+    simp length-set (omega (arith, long _ _ _ c.requires.out_value, length-padding c.args.total))
 
 pub returns : goal.returns
 returns c =

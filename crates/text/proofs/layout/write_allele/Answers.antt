@@ -11,7 +11,7 @@ put_three-third-requires c =
     omega (
       arith,
       next,
-      c.put_three-second.auto.0,
+      c.put_three-second.auto.to,
       c.requires,
     )
 
@@ -23,8 +23,8 @@ put-requires c =
       arith,
       next,
       last,
-      c.put_three-second.auto.0,
-      c.put_three-third.auto.0,
+      c.put_three-second.auto.to,
+      c.put_three-third.auto.to,
       c.requires,
     )
 

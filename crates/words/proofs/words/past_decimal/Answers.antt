@@ -16,7 +16,10 @@ returns-then-n-eq0 c =
 
 pub longest_reaching-reached-requires : goal.longest_reaching-reached-requires
 longest_reaching-reached-requires c =
-    (leads-long _ c.leading_digits-digits.ensures c.if-n-eq0.false, (omega arith, c.requires.least_le_most))
+    record {
+      digits_value = leads-long _ c.leading_digits-digits.ensures c.if-n-eq0.false;
+      least_nonzero = (omega arith, c.requires.least_le_most);
+    }
 
 pub returns-then-number-least : goal.returns-then-number-least
 returns-then-number-least c =
@@ -24,11 +27,11 @@ returns-then-number-least c =
     (rw lent-tail at c.leading_digits-digits.ensures) c.if-n-eq0.false
     c.if-number-least.true _ c.longest_reaching-reached.ensures
 
--- where the walk is then lies within the text
-pub overflow_add-result : goal.overflow_add-result
-overflow_add-result c = omega (arith, (returns-3 c).onward.within)
-
 pub returns : goal.returns
 returns c =
     counts-within _ _ _ c.args.a c.requires.at_in_bounds (not-false _ c.if-not-a.false) _ _
     (rw lent-tail at c.leading_digits-digits.ensures) c.if-n-eq0.false c.if-number-least.false
+
+-- where the walk is then lies within the text
+pub overflow_add-result : goal.overflow_add-result
+overflow_add-result c = omega (arith, (returns-then-number-least c).onward.within)

@@ -26,4 +26,4 @@ returns c =
 
 -- where the walk is then lies within the text
 pub overflow_add-result : goal.overflow_add-result
-overflow_add-result c = omega (arith, (returns-2 c).within)
+overflow_add-result c = omega (arith, (returns c).within)

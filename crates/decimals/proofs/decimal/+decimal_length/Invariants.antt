@@ -1,0 +1,5 @@
+-- The measure is the number.
+use Rattle.decimals.proofs.decimal.+decimal_length.Given as goal
+
+abbrev pub decreases-decimal_length : goal.decreases-decimal_length
+decreases-decimal_length l = l.n
