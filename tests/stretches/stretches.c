@@ -1,8 +1,7 @@
 /*
- * Where the stretches lie that reading hands back. Crate stretch_writer passes each to write; the write here stands in
- * the place of the C library's and keeps what it is passed. Ends with status 1 at the first stretch that lies
- * elsewhere: that of an accepted text lies in it as document 01 says, that of a refused text is the empty one
- * at its start.
+ * Where the stretches lie that reading hands back. Crate stretch_writer tells the place and the length of each. Ends with
+ * status 1 at the first stretch that lies elsewhere: that of an accepted text lies in it as document 01 says, that of a
+ * refused text is the empty one at its start.
  */
 #include <stddef.h>
 #include <stdint.h>
@@ -16,22 +15,15 @@
 #define ALLELE(letters) "{\"location\":\"" D "\",\"state\":{\"sequence\":\"" letters "\",\"type\":\"SequenceState\"}," \
                         "\"type\":\"Allele\"}"
 
-void handed_digest(const uint8_t *text, size_t text_len);
-void handed_location(const uint8_t *text, size_t text_len);
-void handed_sequence(const uint8_t *text, size_t text_len);
+/* A stretch: where it starts, and how many bytes it has. */
+struct handed {
+    const uint8_t *start;
+    size_t length;
+};
 
-/* What the latest write was passed, and how many there were. */
-static const uint8_t *passed;
-static size_t passed_len;
-static int writes;
-
-ptrdiff_t write(int descriptor, const void *bytes, size_t count) {
-    (void)descriptor;
-    passed = bytes;
-    passed_len = count;
-    writes++;
-    return (ptrdiff_t)count;
-}
+void handed_digest(const uint8_t *text, size_t text_len, struct handed *to);
+void handed_location(const uint8_t *text, size_t text_len, struct handed *to);
+void handed_sequence(const uint8_t *text, size_t text_len, struct handed *to);
 
 /* A text, and the stretches of it that are handed back; all empty at 0 for a text that is refused. */
 struct text {
@@ -52,13 +44,14 @@ static const struct text accepted[] = {
 static uint8_t room[400];
 static int met;
 
-static void expect(void (*handed)(const uint8_t *, size_t), size_t length, size_t at, size_t count) {
+static void expect(void (*handed)(const uint8_t *, size_t, struct handed *), size_t length, size_t at, size_t count) {
     const uint8_t *text = room + 101;
-    writes = 0;
-    handed(text, length);
-    if (writes != 1 || passed != text + at || passed_len != count) {
-        printf("stretches: FAILED: %lu bytes at %ld for %lu at %lu of %.*s\n", (unsigned long)passed_len,
-               (long)(passed - text), (unsigned long)count, (unsigned long)at, (int)length, (const char *)text);
+    /* No stretch of the text: each of the two has to be told. */
+    struct handed told = {NULL, sizeof room};
+    handed(text, length, &told);
+    if (told.start != text + at || told.length != count) {
+        printf("stretches: FAILED: %lu bytes at %ld for %lu at %lu of %.*s\n", (unsigned long)told.length,
+               (long)(told.start - text), (unsigned long)count, (unsigned long)at, (int)length, (const char *)text);
         exit(1);
     }
     met++;
