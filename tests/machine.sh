@@ -24,8 +24,8 @@ link() {
         "$lib/libc.so.6" "$lib/libc_nonshared.a" "$lib/crtendS.o" "$lib/crtn.o"
 }
 
-# build_over ARCHIVE FLAG PROGRAM SOURCE...: a C program over an archive, compiled with one more flag by the machine's own
-# compiler, as a laboratory would.
+# build_over ARCHIVE FLAG PROGRAM SOURCE...: a C program over an archive, compiled with one more flag by the machine's
+# own compiler, as a laboratory would.
 build_over() {
     build_archive=$1 build_flag=$2 build_program=$3
     shift 3
@@ -45,8 +45,8 @@ stale() {
 }
 
 # prove NAME VERB RESULT: rt VERB in the crate NAME, which makes the file RESULT, if that is stale. It is as old as the
-# moment when its making began. Standard error tells what is proved, since standard output is the program's own. The rest
-# of what rt says is shown only where it fails.
+# moment when its making began. Standard error tells what is proved, since standard output is the program's own. The
+# rest of what rt says is shown only where it fails.
 prove() {
     stale "$3" crates crates.txt || return 0
     echo "proving what $3 is built from" >&2

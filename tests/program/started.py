@@ -14,7 +14,7 @@ sys.path.insert(1, str(Path(__file__).resolve().parents[1] / "second"))
 import program
 from command_line import COMMANDS, asked
 
-# Long enough for an emulator on a slow machine.
+# Long enough for a slow machine.
 PATIENCE = 120
 BOTH = "[--tsv]"
 # Nothing here hangs on a disk, and without one a save is much quicker.

@@ -1,7 +1,7 @@
 /*
- * Where the stretches lie that reading hands back. Crate stretch_writer tells the place and the length of each. Ends with
- * status 1 at the first stretch that lies elsewhere: that of an accepted text lies in it as document 01 says, that of a
- * refused text is the empty one at its start.
+ * Where the stretches lie that reading hands back. Crate stretch_writer tells where each starts, and its length. Ends
+ * with status 1 at the first stretch that lies elsewhere: that of an accepted text lies in it as document 01 says, that
+ * of a refused text is the empty one at its start.
  */
 #include <stddef.h>
 #include <stdint.h>
