@@ -21,7 +21,7 @@ pub write-requires : goal.write-requires
 write-requires c =
     let f = found-fits _ _ _ _ _ c.requires c.normalise-w.ensures in
     let room = rw c.form_of-form.ensures at (sym c.sum_exceeds.ensures ∙ c.if-sum_exceeds.false) in
-    (f, ltb-false _ _ room)
+    record { fits = f; w_in_bounds = ltb-false _ _ room }
 
 pub returns : goal.returns
 returns c =
