@@ -5,7 +5,7 @@ use Rattle.vcf_line.proofs.Places.{at-place, no_place, place-lies}
 use Rattle.vcf_line.proofs.alternates.alternate_of.Goals as goal
 
 pub extent_of-requires : goal.extent_of-requires
-extent_of-requires c = let l = place-lies _ _ (sym c.nth_piece.ensures ∙ c.in-At.is) in
+extent_of-requires c = let l = place-lies _ _ (sym c.in-At.ensures) in
     (l.ordered, l.inside)
 
 pub returns-in-At : goal.returns-in-At
@@ -13,10 +13,10 @@ returns-in-At c =
     let s = c.args in
     c.extent_of.ensures
     ∙ at-place s.alternates.now s.place (omega arith)
-    (sym c.nth_piece.ensures ∙ c.in-At.is)
+    (sym c.in-At.ensures)
 
 pub returns-in-Absent : goal.returns-in-Absent
 returns-in-Absent c =
     let s = c.args in
     no_place s.alternates.now s.place (omega arith)
-    (sym c.nth_piece.ensures ∙ c.in-Absent.is)
+    (sym c.in-Absent.ensures)

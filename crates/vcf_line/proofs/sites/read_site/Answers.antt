@@ -1,7 +1,6 @@
 -- Each return is what the grounds say, by the tests that led there.
 use native.Mathlib.Omega.{arith}
 use mathlib.Core.Path.{◌∙◌, sym}
-use borrow.Author.Tests.{not-true, not-false}
 use Rattle.vcf_line.proofs.Scanned.{columns-found, columns-few, columns-enough}
 use Rattle.vcf_line.proofs.Answers.{position-within, sited-over, sited-few, sited-unlettered}
 use Rattle.vcf_line.proofs.Answers.{sited-no-position, sited-compared}
@@ -27,7 +26,7 @@ returns-then-not-is_lettered c =
     let ref = c.extent_of-ref_column.ensures ∙ sym f.reference.piece in
     rw c.refuse-then-not-is_lettered.ensures
     (sited-unlettered _ _ c.if-reference-gt-REFERENCE_LIMIT.false (columns-enough _ f)
-    (rw ref at (sym c.is_lettered.ensures ∙ not-true _ c.if-not-is_lettered.true)))
+    (rw ref at (sym c.is_lettered.ensures ∙ c.if-not-is_lettered.true)))
 
 pub extent_of-requires : goal.extent_of-requires
 extent_of-requires c =
@@ -41,7 +40,7 @@ returns-in_default-read_position c =
     let pos = c.extent_of.ensures ∙ sym f.pos.piece in
     rw c.refuse-in_default-read_position.ensures
     (sited-no-position _ _ c.if-reference-gt-REFERENCE_LIMIT.false (columns-enough _ f)
-    (rw ref at (sym c.is_lettered.ensures ∙ not-false _ c.if-not-is_lettered.false))
+    (rw ref at (sym c.is_lettered.ensures ∙ c.if-not-is_lettered.false))
     (rw pos at c.in_default-read_position.ensures))
 
 pub before_residue-requires : goal.before_residue-requires
@@ -61,5 +60,5 @@ returns c =
     let pos = c.extent_of.ensures ∙ sym f.pos.piece in
     rw (c.compare_ref.ensures, c.before_residue.ensures, ref)
     (sited-compared _ _ c.if-reference-gt-REFERENCE_LIMIT.false (columns-enough _ f)
-    (rw ref at (sym c.is_lettered.ensures ∙ not-false _ c.if-not-is_lettered.false))
+    (rw ref at (sym c.is_lettered.ensures ∙ c.if-not-is_lettered.false))
     _ (rw pos at c.in-At.ensures) _ f.third)
