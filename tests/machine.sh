@@ -32,6 +32,20 @@ build_over() {
     gcc -std=c11 -O2 -Wall -Wextra -Werror "$build_flag" -Iinclude -o "$build_program" "$@" "$build_archive"
 }
 
+# build_bare ARCHIVE FLAG PROGRAM SOURCE...: the same by the kit's own compiler and linker, with what tests/libc declares,
+# as where a machine has no C library's headers.
+build_bare() {
+    build_archive=$1 build_flag=$2 build_program=$3
+    shift 3
+    for build_source in "$@"; do
+        shift
+        build_object=$build_program.$(basename "$build_source" .c).o
+        compile "$build_source" "$build_object" "$build_flag" -O2 -Itests/libc
+        set -- "$@" "$build_object"
+    done
+    link "$build_program" "$@" "$build_archive"
+}
+
 # build PROGRAM SOURCE [ARCHIVE]: one over the library that is installed under $prefix, or over another archive.
 build() {
     build_over "${3:-$prefix/lib/libfearnavult.a}" "-I$prefix/include" "$1" "$2"
