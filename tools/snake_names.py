@@ -37,7 +37,7 @@ def is_camel(part):
 
 
 def snake(part):
-    return re.sub(r"(?<=[a-z0-9])([A-Z])|([A-Z])", lambda m: ("_" if m.group(1) else "") + m.group(0).lower(), part)
+    return re.sub(r"(?<=[A-Za-z0-9])(?=[A-Z][a-z])|(?<=[a-z0-9])(?=[A-Z])", "_", part).lower()
 
 
 def renamed(name):

@@ -39,7 +39,8 @@ use Rattle.allele_identifier.proofs.Hashing.{allele-long}
 module _ (r x digest : List ℕ) (w : Stretches) where
   pub rest_then : Accepted ≡ digest_text_answer digest → cleanly r x w ≡ rest_answer r x digest w
   unfolding rest_answer
-  rest_then e = rw (verdict-then (digest_text_grounds digest) (foreign_normal (joined r x w) ∷ []) (outcome-accepted _ e))
+  rest_then e =
+      rw (verdict-then (digest_text_grounds digest) (foreign_normal (joined r x w) ∷ []) (outcome-accepted _ e))
 
   pub rest-refused : (why : Refusal) → Refused why ≡ digest_text_answer digest
       → ◌≡◌ {A = Located} (Unfound why) (rest_answer r x digest w)

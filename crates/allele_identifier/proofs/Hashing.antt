@@ -8,7 +8,8 @@ use Rattle.normal_form.specs.declared.Stretches.{Stretches}
 use Rattle.normal_form.specs.Form.{Normal}
 use Rattle.normal_form.specs.Stretches.{Fits, joined as joined_stretches, joined_length, form_in}
 use Rattle.normal_form.proofs.Joined.{length-joined}
-use Rattle.text.specs.Layout.{location_text, allele_text, allele_words, before_location, before_sequence, after_sequence}
+use Rattle.text.specs.Layout.{location_text, allele_text, allele_words, before_location}
+use Rattle.text.specs.Layout.{before_sequence, after_sequence}
 use Rattle.text.proofs.Layouts.{length-allele}
 use Rattle.sha512.specs.Message.{sha512}
 use Rattle.sha512.specs.Feeding.{begun, joined, fed_all, finished}

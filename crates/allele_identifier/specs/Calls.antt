@@ -17,7 +17,8 @@ use Rattle.allele_identifier.specs.Identifier.{text_of, identifier_of}
 -- an allele and the digest of its sequence: 1, 2, 3, 4, then 7, then 5
 unfoldable pub allele_grounds : List ℕ → ℕ → ℕ → List ℕ → List ℕ → List Ground
 allele_grounds r start end x digest =
-    given_grounds r start end x ++ (digest_text_grounds digest ++ (foreign_normal (normal r start end x).replacement ∷ []))
+    given_grounds r start end x
+    ++ (digest_text_grounds digest ++ (foreign_normal (normal r start end x).replacement ∷ []))
 
 -- the allele text: 1, 2, 3, 4, 7, 5, 6
 abbrev pub WritesAllele : List ℕ → ℕ → ℕ → List ℕ → List ℕ → List ℕ → ℕ → Written → List ℕ → Type 0

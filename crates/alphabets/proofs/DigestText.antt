@@ -17,7 +17,8 @@ module _ (d : List ℕ) (v : verdict (digest_text_grounds d) ≡ accepted) where
   pub digest-long : length d ≡ digest_length
   unfolding digest_text_grounds
   digest-long =
-      eqb-true (length d) digest_length (not-false (eqb (length d) digest_length) (none-holds (digest_text_grounds d) v 0))
+      eqb-true (length d) digest_length
+      (not-false (eqb (length d) digest_length) (none-holds (digest_text_grounds d) v 0))
 
   pub digest-all : every base64url d ≡ true
   unfolding digest_text_grounds

@@ -23,7 +23,8 @@ use Rattle.answer_line.specs.Inner.{head, refused_line, stop}
 
 -- a form's line in its parts
 front-line : (start end : ℕ) (k : Kind) (behind rest : List ℕ)
-    → head start end k behind ++ rest ≡ decimal start ++ (space ∷ (decimal end ++ (space ∷ (word k ++ (behind ++ rest)))))
+    → head start end k behind ++ rest ≡ decimal start
+    ++ (space ∷ (decimal end ++ (space ∷ (word k ++ (behind ++ rest)))))
 front-line start end k behind rest =
     append_assoc (decimal start) _ rest
     ∙ ap (λ (l : List ℕ). decimal start ++ (space ∷ l)) (append_assoc (decimal end) _ rest

@@ -9,10 +9,10 @@ use Rattle.stretch.proofs.Join.{length_three}
 use Rattle.stretch.proofs.Over.{over-next, over-tail}
 use Rattle.normal_form_calls.specs.declared.Form.{Form}
 use Rattle.image.specs.Numbers.{numbers, put, bytes}
-use Rattle.image.specs.Fields.{header_size, first_edition, journal_capacity_place, pool_offset_place, reference_length_place}
-use Rattle.image.specs.Fields.{digest_place, entry_size, journal_place, pool_place, issued, issued_place, journal_offset}
-use Rattle.image.specs.Fields.{journal_count, journal_count_place, pool_offset, pool_used, pool_used_place, header_of}
-use Rattle.image.specs.Fields.{record_place, record_of, active}
+use Rattle.image.specs.Fields.{header_size, first_edition, journal_capacity_place, pool_offset_place}
+use Rattle.image.specs.Fields.{reference_length_place, digest_place, entry_size, journal_place, pool_place, issued}
+use Rattle.image.specs.Fields.{issued_place, journal_offset, journal_count, journal_count_place, pool_offset, pool_used}
+use Rattle.image.specs.Fields.{pool_used_place, header_of, record_place, record_of, active}
 use Rattle.image.proofs.Patched.{length-numbers}
 use Rattle.image.proofs.Numbers.{length-bytes}
 use Rattle.changes.specs.Changes.{blanked, journalled, recorded, pooled, counted, numbered}
@@ -55,9 +55,9 @@ put-tail l at k v h = over-tail l at k (bytes 4 v) (rw (length-bytes 4 v) h)
 pub header-laid : (l : List ℕ) (n : ℕ) (digest : List ℕ) (records journal pool journal-at pool-at : ℕ)
     → header_size ≤ length l
     → journal-at ≡ journal_place records → pool-at ≡ pool_place records journal
-    → over (put (put (put (over (over l 0 (numbers (first_edition ∷ records ∷ 0 ∷ header_size ∷ []))) journal_capacity_place
-    (numbers (journal ∷ 0 ∷ journal-at ∷ pool ∷ []))) pool_used_place 0) pool_offset_place pool-at)
-    reference_length_place n) digest_place digest
+    → over (put (put (put (over (over l 0 (numbers (first_edition ∷ records ∷ 0 ∷ header_size ∷ [])))
+    journal_capacity_place (numbers (journal ∷ 0 ∷ journal-at ∷ pool ∷ []))) pool_used_place 0)
+    pool_offset_place pool-at) reference_length_place n) digest_place digest
     ≡ blanked l n digest records journal pool
 unfolding blanked header_of
 header-laid l n digest records journal pool journal-at pool-at h e₁ e₂ =

@@ -92,9 +92,11 @@ pub decimal-within : (n : ℕ) → n < 2 ^ 64 → length (decimal n) ≤ 20
 decimal-within n h = decimal-short 19 n (omega arith)
 
 -- every byte is a digit
-pub decimal-digits : (n i : ℕ) → i < length (decimal n) → (0x30 ≤ get_or (decimal n) i 0) × (get_or (decimal n) i 0 ≤ 0x39)
+pub decimal-digits : (n i : ℕ) → i < length (decimal n)
+    → (0x30 ≤ get_or (decimal n) i 0) × (get_or (decimal n) i 0 ≤ 0x39)
 decimal-digits =
-    by-tenths (λ n. (i : ℕ) → i < length (decimal n) → (0x30 ≤ get_or (decimal n) i 0) × (get_or (decimal n) i 0 ≤ 0x39))
+    by-tenths (λ n. (i : ℕ) → i < length (decimal n)
+    → (0x30 ≤ get_or (decimal n) i 0) × (get_or (decimal n) i 0 ≤ 0x39))
     (λ n h i. rw (decimal-below n h) (λ l. only n i h l))
     (λ n h f i. rw (decimal-tenth n h)
     (λ l. more (decimal (n / 10)) (n % 10) i (omega arith) f (simp length-append at l)))

@@ -10,8 +10,8 @@ use Rattle.stretch.proofs.Over.{length_over}
 use Rattle.stretch.proofs.Through.{part-laid}
 use Rattle.refusal.specs.Limits.{reference_limit}
 use Rattle.image.specs.Numbers.{number, numbers}
-use Rattle.image.specs.Fields.{header_size, first_edition, digest_place, count_limit, pool_limit, journal_place, pool_place}
-use Rattle.image.specs.Fields.{image_size, sequence_digest, header_of}
+use Rattle.image.specs.Fields.{header_size, first_edition, digest_place, count_limit, pool_limit}
+use Rattle.image.specs.Fields.{journal_place, pool_place, image_size, sequence_digest, header_of}
 use Rattle.image.proofs.Patched.{length-numbers, number-laid, number-first, number-numbers}
 use Rattle.image.proofs.Arranged.{header-journal, journal-pool, journal-held, pool-held}
 use Rattle.changes.specs.Changes.{blanked}
@@ -65,7 +65,8 @@ module _ (b : List ℕ) (n : ℕ) (digest : List ℕ) (records journal pool : �
       ∙ take-length digest
 
 pub blanked-seen : (b : List ℕ) (n : ℕ) (digest : List ℕ) (records journal pool : ℕ)
-    → length digest ≡ digest_length → records ≤ count_limit → journal ≤ count_limit → pool ≤ pool_limit → n ≤ reference_limit
+    → length digest ≡ digest_length → records ≤ count_limit → journal ≤ count_limit → pool ≤ pool_limit
+    → n ≤ reference_limit
     → image_size records journal pool ≤ length b
     → Fresh (length b) n digest records journal pool (blanked b n digest records journal pool)
 blanked-seen b n digest records journal pool whole r j p l size =

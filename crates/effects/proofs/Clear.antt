@@ -9,10 +9,10 @@ use lib.Dec.{leb, ltb}
 use lib.ListN.{length}
 use borrow.Author.Tests.{leb-true, leb-false, ltb-true, ltb-false}
 use Rattle.stretch.proofs.Cases.{by_cases}
-use Rattle.image.specs.Fields.{header_size, record_size, entry_size, edition_place, record_capacity, issued, issued_place}
-use Rattle.image.specs.Fields.{records_offset_place, journal_capacity, journal_count, journal_count_place, journal_offset}
-use Rattle.image.specs.Fields.{journal_offset_place, pool_capacity, pool_used, pool_used_place, pool_offset, pool_offset_place}
-use Rattle.image.specs.Fields.{record_place, status_place, entry_place}
+use Rattle.image.specs.Fields.{header_size, record_size, entry_size, edition_place, record_capacity, issued}
+use Rattle.image.specs.Fields.{issued_place, records_offset_place, journal_capacity, journal_count, journal_count_place}
+use Rattle.image.specs.Fields.{journal_offset, journal_offset_place, pool_capacity, pool_used, pool_used_place}
+use Rattle.image.specs.Fields.{pool_offset, pool_offset_place, record_place, status_place, entry_place}
 use Rattle.image.specs.Header.{Header}
 use Rattle.image.proofs.Arranged.{fields-inside, record-header, record-order, record_apart, record-journal}
 use Rattle.image.proofs.Spared.{Aside}

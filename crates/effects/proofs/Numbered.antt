@@ -9,9 +9,9 @@ use lib.ListN.{length, get_or}
 use Rattle.stretch.specs.Part.{part}
 use Rattle.normal_form.specs.Form.{Normal}
 use Rattle.image.specs.Numbers.{number}
-use Rattle.image.specs.Fields.{header_size, record_capacity, issued, issued_place, journal_capacity, journal_count}
-use Rattle.image.specs.Fields.{pool_capacity, pool_used, pool_used_place, pool_offset, record_place, start_of, offset_of}
-use Rattle.image.specs.Fields.{length_of, replacement_of}
+use Rattle.image.specs.Fields.{header_size, record_capacity, issued, issued_place, journal_capacity}
+use Rattle.image.specs.Fields.{journal_count, pool_capacity, pool_used, pool_used_place, pool_offset}
+use Rattle.image.specs.Fields.{record_place, start_of, offset_of, length_of, replacement_of}
 use Rattle.image.specs.Header.{Header}
 use Rattle.image.proofs.Arranged.{fields-inside, record-header, record-journal}
 use Rattle.image.proofs.Spared.{Spared, Aside, spared-on, spared-number}

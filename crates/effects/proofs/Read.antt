@@ -7,10 +7,10 @@ use Rattle.stretch.specs.Part.{part}
 use Rattle.image.specs.Numbers.{number}
 use Rattle.image.specs.Fields.{header_size, edition_place, record_capacity_place, issued_place, records_offset_place}
 use Rattle.image.specs.Fields.{journal_capacity_place, journal_count_place, journal_offset_place, pool_capacity_place}
-use Rattle.image.specs.Fields.{pool_used_place, pool_offset_place, reference_length_place, digest_place, journal_offset, issued}
-use Rattle.image.specs.Fields.{journal_count, pool_used, pool_offset, record_place, end_in_record, offset_in_record}
-use Rattle.image.specs.Fields.{length_in_record, status_place, offset_of, length_of, status_of, replacement_of, entry_place}
-use Rattle.image.specs.Fields.{entry_of, entry_size}
+use Rattle.image.specs.Fields.{pool_used_place, pool_offset_place, reference_length_place, digest_place, journal_offset}
+use Rattle.image.specs.Fields.{issued, journal_count, pool_used, pool_offset, record_place, end_in_record}
+use Rattle.image.specs.Fields.{offset_in_record, length_in_record, status_place, offset_of, length_of, status_of}
+use Rattle.image.specs.Fields.{replacement_of, entry_place, entry_of, entry_size}
 use Rattle.image.proofs.Spared.{spared-number}
 use Rattle.effects.proofs.Seen.{Frame, Kept, Stays}
 use Rattle.effects.proofs.Spares.{Unwritten, edition_on, records_on, journal_on, pool_on, of_record, of_status}
@@ -36,9 +36,11 @@ module _ (b : List ℕ) (i : ℕ) (c : List ℕ) (s : Spares b i b c) where
             (omega arith);
         journal-at = read_number journal_offset_place pool_used_place journal_on journal_offset_place (omega arith)
             (omega arith);
-        pool = read_number journal_offset_place pool_used_place journal_on pool_capacity_place (omega arith) (omega arith);
+        pool =
+            read_number journal_offset_place pool_used_place journal_on pool_capacity_place (omega arith) (omega arith);
         pool-at = read_number pool_offset_place header_size pool_on pool_offset_place (omega arith) (omega arith);
-        reference = read_number pool_offset_place header_size pool_on reference_length_place (omega arith) (omega arith);
+        reference =
+            read_number pool_offset_place header_size pool_on reference_length_place (omega arith) (omega arith);
         digest = (s.spared pool_offset_place header_size pool_on).parts digest_place header_size (omega arith)
             (omega arith) (omega arith);
       }

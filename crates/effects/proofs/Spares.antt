@@ -8,8 +8,8 @@ use Rattle.stretch.specs.Over.{over}
 use Rattle.stretch.proofs.Over.{length_over}
 use Rattle.image.specs.Numbers.{bytes, put}
 use Rattle.image.specs.Fields.{header_size, edition_place, issued, issued_place, records_offset_place, journal_count}
-use Rattle.image.specs.Fields.{journal_count_place, journal_offset, journal_offset_place, pool_offset, pool_offset_place}
-use Rattle.image.specs.Fields.{pool_used, pool_used_place, record_place, status_place, entry_place}
+use Rattle.image.specs.Fields.{journal_count_place, journal_offset, journal_offset_place, pool_offset}
+use Rattle.image.specs.Fields.{pool_offset_place, pool_used, pool_used_place, record_place, status_place, entry_place}
 use Rattle.image.proofs.Numbers.{length-bytes}
 use Rattle.image.proofs.Spared.{Spared, Aside, spared-over, spared-on}
 

@@ -9,8 +9,8 @@ use Rattle.stretch.specs.Part.{part}
 use Rattle.stretch.proofs.Over.{part-over}
 use Rattle.normal_form.specs.Form.{Normal}
 use Rattle.image.specs.Numbers.{number, numbers}
-use Rattle.image.specs.Fields.{record_size, record_capacity, issued, pool_capacity, pool_used, pool_offset, record_place}
-use Rattle.image.specs.Fields.{record_of, active}
+use Rattle.image.specs.Fields.{record_size, record_capacity, issued, pool_capacity, pool_used}
+use Rattle.image.specs.Fields.{pool_offset, record_place, record_of, active}
 use Rattle.image.specs.Header.{Header}
 use Rattle.image.proofs.Patched.{length-numbers, number-laid, number-numbers}
 use Rattle.image.proofs.Arranged.{fields-inside, length-record, record-journal}

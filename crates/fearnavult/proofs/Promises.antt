@@ -38,8 +38,8 @@ use Rattle.c_answers.specs.declared.FvOutcome.{FvOutcome}
 use Rattle.c_answers.specs.declared.FvRecord.{FvRecord}
 use Rattle.c_answers.specs.declared.FvUndone.{FvUndone}
 use Rattle.c_answers.specs.declared.FvWritten.{FvWritten}
-use Rattle.c_answers.specs.Flat.{flat_written, flat_form, flat_location, flat_allele, flat_outcome, flat_entered, flat_undone}
-use Rattle.c_answers.specs.Flat.{flat_identified, flat_counted, flat_record, Flattened}
+use Rattle.c_answers.specs.Flat.{flat_written, flat_form, flat_location, flat_allele, flat_outcome, flat_entered}
+use Rattle.c_answers.specs.Flat.{flat_undone, flat_identified, flat_counted, flat_record, Flattened}
 
 -- one answer below is one answer above
 flat-once : {A B : Type 0} (flatten : A → B) (P Q : A → Type 0) (a₁ a₂ : B) (p : Flattened flatten P a₁)

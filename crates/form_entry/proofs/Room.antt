@@ -18,7 +18,8 @@ module _ (b : List ℕ) where
       leb-false _ _ (none-holds grounds (outcome-accepted (verdict grounds) e) 0)
 
   pub new-room : (residues : ℕ) → Accepted ≡ new_answer b residues
-      → (issued b < record_capacity b) × (pool_used b + residues ≤ pool_capacity b) × (journal_count b < journal_capacity b)
+      → (issued b < record_capacity b) × (pool_used b + residues ≤ pool_capacity b)
+      × (journal_count b < journal_capacity b)
   new-room residues e =
       let none = none-holds (new_grounds b residues) (outcome-accepted (verdict (new_grounds b residues)) e) in
       (leb-false _ _ (none 0), ltb-false _ _ (none 1), leb-false _ _ (none 2))

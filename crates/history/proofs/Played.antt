@@ -10,7 +10,8 @@ use Rattle.alphabets.specs.Alphabets.{letter, residue, base64url, digest_text_gr
 use Rattle.normal_form.specs.Form.{altered, shorter, within, ahead, behind, kind_in, kind_of, changed_form, normal}
 use Rattle.normal_form_calls.specs.Calls.{form_grounds}
 use Rattle.image.specs.Numbers.{little, bytes, number, numbers, put}
-use Rattle.image.specs.Fields.{record_size, journal_place, pool_place, header_of, record_place, record_of, replacement_of}
+use Rattle.image.specs.Fields.{record_size, journal_place, pool_place, header_of}
+use Rattle.image.specs.Fields.{record_place, record_of, replacement_of}
 use Rattle.image.specs.Formed.{laid_out, counts_within, within_limits, header_formed, lengths, record_good, entry_good}
 use Rattle.image.specs.Formed.{well_formed}
 use Rattle.moved.specs.Moved.{moved_by}

@@ -97,7 +97,8 @@ module _ {v w : View} (i : ℕ) (keeps : KeepsOthers v w i) where
 
 -- one more change
 pub stands-changed : {us ss : List Change} (c : Change) {v w : View} → Stands us ss v
-    → Changes v w (number_of c) (given c) → act (us ++ ss) (number_of c) ≡ 1 - given c → Means w c → Stands (c ∷ us) ss w
+    → Changes v w (number_of c) (given c) → act (us ++ ss) (number_of c) ≡ 1 - given c → Means w c
+    → Stands (c ∷ us) ss w
 stands-changed {us} {ss} c {w} s changes other means =
     let i = number_of c in
     let keeps = changes.keeps in

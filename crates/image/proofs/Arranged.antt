@@ -51,7 +51,8 @@ pub journal-held : (records : ℕ) → records ≤ count_limit → journal_place
 unfolding journal_place record_size
 journal-held records r = omega arith
 
-pub pool-held : (records entries : ℕ) → records ≤ count_limit → entries ≤ count_limit → pool_place records entries < 2 ^ 32
+pub pool-held : (records entries : ℕ) → records ≤ count_limit → entries ≤ count_limit
+    → pool_place records entries < 2 ^ 32
 unfolding pool_place journal_place record_size
 pool-held records entries r j = omega arith
 

@@ -21,7 +21,8 @@ part-four b at h =
     rw (add-sub_cancel_left at 4, first, on 1 (omega arith), on 2 (omega arith), on 3 (omega arith))
 
 pub number-four : (b : List ℕ) (at : ℕ) → at + 4 ≤ length b
-    → number b at ≡ get_or b at 0 + 256 * (get_or b (at + 1) 0 + 256 * (get_or b (at + 2) 0 + 256 * get_or b (at + 3) 0))
+    → number b at ≡ get_or b at 0 + 256
+    * (get_or b (at + 1) 0 + 256 * (get_or b (at + 2) 0 + 256 * get_or b (at + 3) 0))
 unfolding number little
 number-four b at h = rw (part-four b at h) (omega arith)
 

@@ -35,7 +35,8 @@ placed_tests b k =
 unfoldable pub placed : List ℕ → ℕ → Bool
 placed b k = all (placed_tests b k)
 
-good_placed : (b : List ℕ) (k : ℕ) → record_good b k ≡ cond (placed b k) (every residue (replacement_of b (suc k))) false
+good_placed : (b : List ℕ) (k : ℕ)
+    → record_good b k ≡ cond (placed b k) (every residue (replacement_of b (suc k))) false
 unfolding record_good placed
 good_placed b k =
     let residues = every residue (replacement_of b (suc k)) in

@@ -84,7 +84,8 @@ module _ (line : List ℕ) where
         )
 
 -- a full stop alone, another first byte, and more bytes
-pub stop-alone : (line : List ℕ) (i : ℕ) → i + 1 ≡ length line → get_or line i 0 ≡ 0x2E → replacement_of (drop i line) ≡ []
+pub stop-alone : (line : List ℕ) (i : ℕ) → i + 1 ≡ length line → get_or line i 0 ≡ 0x2E
+    → replacement_of (drop i line) ≡ []
 unfolding replacement_of same
 stop-alone line i e h = rw (drop-cons line i 0 (omega arith), h, drop_of_length-le line {i = suc i} (omega arith))
 

@@ -21,7 +21,7 @@ use Rattle.answer_line.specs.Answers.{answer_line, Room}
 use Rattle.answer_line.proofs.Laying.{part-short}
 use Rattle.lines.specs.declared.Step.{Step}
 use Rattle.lines.specs.Output.{ended, answers_to, output_of, output, input_limit, printed}
-use Rattle.lines.specs.Steps.{reference_of, line_at, rest, Starts, Ready, Steps, Pieces, none, one, in_arow}
+use Rattle.lines.specs.Steps.{reference_of, line_at, rest, Starts, Ready, Steps, Pieces, none, one, in_a_row}
 
 -- what is printed for the lines from a place on
 abbrev answers_from : List ℕ → List ℕ → ℕ → List ℕ
@@ -118,17 +118,17 @@ module _ (input : List ℕ) where
       }
 
   -- the pieces from a step on are what is to be printed there
-  pub pieces-rest : {s : Step} {ps : List (List ℕ)} → Pieces input s ps → in_arow ps ≡ rest input s
+  pub pieces-rest : {s : Step} {ps : List (List ℕ)} → Pieces input s ps → in_a_row ps ≡ rest input s
   pieces-rest (none s h) = sym (answers-end (reference_of input s) input s.next h)
   pieces-rest (one s t out left qs w p) = ap (λ (x : List ℕ). take t.written left ++ x) (pieces-rest p)
       ∙ sym w.whole
 
-  pub pieces-output : (s : Step) (ps : List (List ℕ)) → Starts input s → Pieces input s ps → in_arow ps ≡ output input
+  pub pieces-output : (s : Step) (ps : List (List ℕ)) → Starts input s → Pieces input s ps → in_a_row ps ≡ output input
   pieces-output s ps b p = pieces-rest p ∙ sym b.whole
 
 -- all that the program prints: it steps through the input up to its limit
 pub pieces-printed : (input : List ℕ) (s : Step) (ps : List (List ℕ)) → Starts (take input_limit input) s
     → Pieces (take input_limit input) s ps
-    → in_arow ps ≡ printed input
+    → in_a_row ps ≡ printed input
 unfolding printed
 pieces-printed input s ps b p = pieces-output (take input_limit input) s ps b p

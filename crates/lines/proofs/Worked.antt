@@ -21,7 +21,8 @@ pub worked-output :
     ≡ ascii "1 10 indel CAGCAGCAGCAG 3 0 6 0\n2 2 unchanged . 0 0 0 0\nrefused 2\n")
     × (output (ascii "MKR*\n1 2 *\n3 4 .\n4 4 *\n2 2 -\n2 2 +\n")
     ≡ ascii "1 2 substitution * 0 0 0 0\n3 4 indel . 0 0 0 0\n3 4 indel ** 1 0 0 0\n2 2 indel - 0 0 0 0\nrefused 4\n")
-unfolding output answer_line parted meaning_of replacement_of same number_of number_within value value_from decimal enough
+unfolding output answer_line parted meaning_of replacement_of same number_of number_within value value_from decimal
+    enough
     decimal_in form_grounds residue letter first_outside normal altered changed_form kind_of kind_in ahead behind within
     shorter lcp lcs moved_by
 worked-output = (refl, refl)

@@ -54,6 +54,6 @@ pub data Pieces (input : List ℕ) : Step → List (List ℕ) → Type 0 where
       → Pieces input s (take t.written left ∷ ps)
 
 -- pieces put one after another
-abbrev pub in_arow : List (List ℕ) → List ℕ
-in_arow [] = []
-in_arow (p ∷ ps) = p ++ in_arow ps
+abbrev pub in_a_row : List (List ℕ) → List ℕ
+in_a_row [] = []
+in_a_row (p ∷ ps) = p ++ in_a_row ps

@@ -41,7 +41,8 @@ module _ (n start end : ℕ) (digest : List ℕ) where
   unfolding location_answer
   location-accepted e = outcome-accepted _ e
 
-  pub location-refused : (why : Refusal) → Refused why ≡ location_answer n start end digest → verdict given ≡ refused why
+  pub location-refused : (why : Refusal) → Refused why ≡ location_answer n start end digest
+      → verdict given ≡ refused why
   unfolding location_answer
   location-refused why e = outcome-refused _ why e
 
@@ -90,7 +91,8 @@ module _ (n start end : ℕ) (digest text out : List ℕ) (place needed : ℕ)
   same accepted e = ap ends (sym (long (digest-checked n start end digest e)))
   same (refused why) e =
       verdict-first (location_grounds n start end digest) (output_too_short (length out) place (length text) ∷ []) why e
-      ∙ sym (verdict-first (location_grounds n start end digest) (output_too_short (length out) place needed ∷ []) why e)
+      ∙ sym (verdict-first (location_grounds n start end digest)
+      (output_too_short (length out) place needed ∷ []) why e)
 
   pub output-place : Accepted ≡ output_answer n start end digest (length out) place needed
       → place + length text ≤ length out

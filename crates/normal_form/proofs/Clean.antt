@@ -99,5 +99,6 @@ module _ (p : ℕ → Bool) where
       let w = (stands-trimmed r start end x h g).lies in
       rw (← ap (λ (j : Justified). j.replacement) (justified-normal r start end x h g))
       (settled-every r a.start a.end w.ordered w.inside
-      (record { start = start; end = end; replacement = x }) a.reference a.alternate q (trimmed-reference (begun r start end x) u)
+      (record { start = start; end = end; replacement = x }) a.reference a.alternate q
+      (trimmed-reference (begun r start end x) u)
       (trimmed-alternate (begun r start end x) q))

@@ -175,7 +175,12 @@ module _ (r : List ℕ) (start end : ℕ) (x : List ℕ) (allele : Allele r star
   unfolding joined changed_stretches spread changed_form kind_of ahead behind
   joins-changed =
       let t = altered r start end x in
-      ap (λ (l : List ℕ). record { kind = kind_of r t; start = ahead r t; end = length r - behind r t; replacement = l })
+      ap (λ (l : List ℕ). record {
+        kind = kind_of r t;
+        start = ahead r t;
+        end = length r - behind r t;
+        replacement = l;
+      })
       (pieces-join r start end x (ahead r t) (behind r t) h g
       (ahead-front r start end x h g) (behind-back r start end x h g) (reach-both r start end x h g))
 

@@ -34,7 +34,8 @@ module _ (r x : List ℕ) (w : Stretches) (f : Fits r x w) where
 
   pub length-joined : joined_length w ≡ length (joined r x w)
   unfolding joined
-  length-joined = sym (length_three (reference_before r w) (replacement_kept x w) (reference_after r w) _ (sym three-long))
+  length-joined =
+      sym (length_three (reference_before r w) (replacement_kept x w) (reference_after r w) _ (sym three-long))
 
   pub pieces-long : {a b c : List ℕ} → a ≡ reference_before r w → b ≡ replacement_kept x w → c ≡ reference_after r w
       → length a + (length b + length c) ≡ joined_length w

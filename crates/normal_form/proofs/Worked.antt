@@ -25,5 +25,6 @@ unfolding lcp lcs same altered shorter within ahead behind kind_in kind_of chang
 worked-source = refl
 
 pub worked-steps : stepped source_case ≡ placed source_case.answer
-unfolding lcp lcs begun less_suffix less_prefix rolled roll_left roll_right extended rolled_out settled trimmed justified
+unfolding lcp lcs begun less_suffix less_prefix rolled roll_left roll_right extended rolled_out settled trimmed
+    justified
 worked-steps = refl

@@ -111,7 +111,8 @@ module _ (r : List ℕ) (start end : ℕ) (x : List ℕ) where
       ap (λ (f : Normal). f.replacement) (located-form w e) in
       rw (j, verdict-then (given_grounds r start end x) _ t.0, t.1)
 
-  pub refused-located : (why : Refusal) → Refused why ≡ located r start end x → Refused why ≡ located_clean r start end x
+  pub refused-located : (why : Refusal) → Refused why ≡ located r start end x
+      → Refused why ≡ located_clean r start end x
   unfolding form_grounds
   refused-located why e =
       rw (verdict-first (given_grounds r start end x) _ why

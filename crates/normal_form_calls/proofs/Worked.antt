@@ -25,7 +25,8 @@ judged c = verdict (form_grounds c.reference c.start c.end c.replacement)
 
 -- none is turned away by 1 to 5
 accepted-cases : map judged cases ≡ map (λ (c : Case). accepted) cases
-unfolding lcp lcs same altered shorter within ahead behind kind_in kind_of changed_form normal residue letter first_outside
+unfolding lcp lcs same altered shorter within ahead behind kind_in kind_of changed_form normal residue letter
+    first_outside
     form_grounds
 accepted-cases = refl
 

@@ -48,7 +48,8 @@ abbrev pub located : List ℕ → ℕ → ℕ → List ℕ → Located
 located r start end x = tell Refused (verdict (given_grounds r start end x)) (Accepted (stretches_of r start end x))
 
 abbrev pub located_clean : List ℕ → ℕ → ℕ → List ℕ → Located
-located_clean r start end x = tell Refused (verdict (form_grounds r start end x)) (Accepted (stretches_of r start end x))
+located_clean r start end x =
+    tell Refused (verdict (form_grounds r start end x)) (Accepted (stretches_of r start end x))
 
 -- 5 alone, of stretches that are found
 abbrev pub cleanly : List ℕ → List ℕ → Stretches → Located
@@ -76,5 +77,6 @@ Lays r x w out place =
 -- what `normal_form` promises
 abbrev pub Normalises : List ℕ → ℕ → ℕ → List ℕ → List ℕ → ℕ → Normalised → List ℕ → Type 0
 Normalises r start end x out place =
-    Forms (verdict (normal_grounds r start end x (length out) place)) (normal r start end x) (moved_by r start end x) out
+    Forms (verdict (normal_grounds r start end x (length out) place)) (normal r start end x)
+    (moved_by r start end x) out
     place

@@ -10,5 +10,6 @@ use Rattle.record_reader.specs.Calls.{checked, record_read}
 pub checks-once : (b : List ℕ) (a₁ a₂ : Outcome) → a₁ ≡ checked b → a₂ ≡ checked b → a₁ ≡ a₂
 checks-once b a₁ a₂ p q = one_answer p q
 
-pub reads-record-once : (b : List ℕ) (i : ℕ) (a₁ a₂ : RecordRead) → a₁ ≡ record_read b i → a₂ ≡ record_read b i → a₁ ≡ a₂
+pub reads-record-once : (b : List ℕ) (i : ℕ) (a₁ a₂ : RecordRead) → a₁ ≡ record_read b i → a₂ ≡ record_read b i
+    → a₁ ≡ a₂
 reads-record-once b i a₁ a₂ p q = one_answer p q

@@ -96,7 +96,8 @@ cut-taken parts v =
     let passed = none-holds (reference_grounds whole) v in
     let none : foreign whole ≡ length whole =
     omega (arith, ltb-false (foreign whole) (length whole) (passed 1), foreign-le whole) in
-    taken-each parts begun [] begun-taken (ltb-false reference_limit (length whole) (passed 0)) (foreign-none whole none)
+    taken-each parts begun [] begun-taken (ltb-false reference_limit (length whole) (passed 0))
+    (foreign-none whole none)
 
 -- what finish promises after parts that were all taken is what the whole reference's call promises
 pub cut-anywhere : (parts : List (List ℕ)) → AllTaken begun parts

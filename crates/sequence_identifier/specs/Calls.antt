@@ -28,7 +28,8 @@ part_grounds total part = reference_over_limit (total + length part) ∷ foreign
 
 -- its finish: 1 for a lent total over the limit, then 6
 abbrev pub finish_grounds : ℕ → ℕ → ℕ → List Ground
-finish_grounds total room place = reference_over_limit total ∷ output_too_short room place sequence_identifier_length ∷ []
+finish_grounds total room place =
+    reference_over_limit total ∷ output_too_short room place sequence_identifier_length ∷ []
 
 -- the identifier is written from the place on, or nothing
 abbrev pub Identifies : List ℕ → List ℕ → ℕ → Written → List ℕ → Type 0

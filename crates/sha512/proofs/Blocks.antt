@@ -1,5 +1,7 @@
 -- Whole blocks and what lies after them, over a message that goes on.
-use Rattle.std.proofs.Common.{◌≡◌, ℕ, zero, suc, ◌+◌, ◌*◌, ◌/◌, ◌%◌, ◌<◌, ◌≤◌, List, [], ◌++◌, length, drop, sym, refl, ap, add-zero, add-suc, add-mul, arith, length-append, length-drop, drop_of_length-le, drop-drop}
+use Rattle.std.proofs.Common.{◌≡◌, ℕ, zero, suc, ◌+◌, ◌*◌, ◌/◌, ◌%◌, ◌<◌, ◌≤◌, List, [], ◌++◌, length}
+use Rattle.std.proofs.Common.{drop, sym, refl, ap, add-zero, add-suc, add-mul, arith, length-append}
+use Rattle.std.proofs.Common.{length-drop, drop_of_length-le, drop-drop}
 use lib.Seq.{take-append-le, drop-append-le}
 use Rattle.sha512_block.specs.declared.Hash.{Hash}
 use Rattle.sha512_block.specs.Blocks.{absorbed, hashed, block_size}

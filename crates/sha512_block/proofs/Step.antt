@@ -1,5 +1,6 @@
 -- The loops of the block step, one turn each.
-use Rattle.std.proofs.Common.{◌≡◌, ℕ, zero, suc, ◌+◌, ◌*◌, ◌<◌, List, length, take, drop, set, sym, ap, ◌∙◌, add-zero, suc-add, add-one, arith, length-append, get_or-take, take-suc-set}
+use Rattle.std.proofs.Common.{◌≡◌, ℕ, zero, suc, ◌+◌, ◌*◌, ◌<◌, List, length, take, drop, set, sym, ap, ◌∙◌, add-zero}
+use Rattle.std.proofs.Common.{suc-add, add-one, arith, length-append, get_or-take, take-suc-set}
 use Rattle.stretch.specs.BigEndian.{big_endian}
 use Rattle.sha512_block.specs.declared.Hash.{Hash}
 use Rattle.sha512_block.specs.Block.{block_words, scheduled, schedule, round_at, rounds, compressed}

@@ -12,7 +12,8 @@ block_words (suc n) b = block_words n b ++ (big_endian 8 b (n * 8) ∷ [])
 
 -- step 1: the schedule's word 16 + t, from the words before it
 abbrev pub scheduled : ℕ → List ℕ → ℕ
-scheduled t w = σ₁ (slice_index w (t + 14)) ⊞ slice_index_or w (t + 9) 0 ⊞ σ₀ (slice_index w (t + 1)) ⊞ slice_index_or w t 0
+scheduled t w =
+    σ₁ (slice_index w (t + 14)) ⊞ slice_index_or w (t + 9) 0 ⊞ σ₀ (slice_index w (t + 1)) ⊞ slice_index_or w t 0
 
 -- the schedule after n such words after the block's sixteen
 unfoldable pub schedule : ℕ → List ℕ → List ℕ

@@ -34,7 +34,8 @@ write-turn whole l (suc i) x p h e =
 
 -- a part of a list that is filled with a number's bytes and comes back
 pub put-number : (l : List ℕ) (place n m x : ℕ) → m ≡ n → place + n ≤ length l
-    → take place l ++ (bytes_of (length (take m (drop place l))) x ++ drop m (drop place l)) ≡ over l place (bytes_of n x)
+    → take place l ++ (bytes_of (length (take m (drop place l))) x ++ drop m (drop place l))
+    ≡ over l place (bytes_of n x)
 unfolding over
 put-number l place n m x e h =
     let k : n ≤ length (drop place l) = simp length-drop (omega arith) in
@@ -42,7 +43,8 @@ put-number l place n m x e h =
 
 -- four words after one another
 pub put-words : (l : List ℕ) (p a b c d : ℕ) → p ≤ length l
-    → over (over (over (over l p (bytes_of 8 a)) (p + 8) (bytes_of 8 b)) (p + 16) (bytes_of 8 c)) (p + 24) (bytes_of 8 d)
+    → over (over (over (over l p (bytes_of 8 a)) (p + 8) (bytes_of 8 b)) (p + 16) (bytes_of 8 c)) (p + 24)
+    (bytes_of 8 d)
     ≡ over l p (four_words a b c d)
 unfolding four_words
 put-words l p a b c d h =

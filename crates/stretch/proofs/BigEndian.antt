@@ -9,7 +9,8 @@ use lib.Seq.{take-suc, get_or-drop}
 use Rattle.stretch.specs.BigEndian.{big_endian}
 
 pub big_endian-four : (m : List ℕ) (i : ℕ)
-    → big_endian 4 m i ≡ ((get_or m i 0 * 256 + get_or m (i + 1) 0) * 256 + get_or m (i + 2) 0) * 256 + get_or m (i + 3) 0
+    → big_endian 4 m i ≡ ((get_or m i 0 * 256 + get_or m (i + 1) 0) * 256 + get_or m (i + 2) 0) * 256
+    + get_or m (i + 3) 0
 unfolding big_endian
 big_endian-four m i = simp (add-zero, zero-add)
 

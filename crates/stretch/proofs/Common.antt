@@ -101,7 +101,8 @@ module _ (a b : List ℕ) (i : ℕ) where
       ∙ rw (length-take-le n (drop i b) room, drop-drop, drop-drop) in
       omega arith
 
-  pub lcp-here : i < length a → i < length b → (get_or a i 0 ≡ get_or b i 0 → ⊥) → lcp a b ≡ i + lcp (drop i a) (drop i b)
+  pub lcp-here : i < length a → i < length b → (get_or a i 0 ≡ get_or b i 0 → ⊥)
+      → lcp a b ≡ i + lcp (drop i a) (drop i b)
       → lcp a b ≡ i
   lcp-here h g n inv = inv ∙ rw (drop-cons a i 0 h, drop-cons b i 0 g, lcp-heads _ _ _ _ n) (add-zero i)
 

@@ -60,7 +60,8 @@ module _ (p : ℕ → Bool) where
 
   -- a loop that has passed i bytes: the next is inside, or outside, or there is none
   pub first_outside-on : (s : List ℕ) (i : ℕ) → i < length s → p (get_or s i 0) ≡ true
-      → first_outside p s ≡ i + first_outside p (drop i s) → first_outside p s ≡ i + 1 + first_outside p (drop (i + 1) s)
+      → first_outside p s ≡ i + first_outside p (drop i s)
+      → first_outside p s ≡ i + 1 + first_outside p (drop (i + 1) s)
   unfolding first_outside
   first_outside-on s i h e inv = inv ∙ rw (add-one, drop-cons s i 0, e) (omega arith)
 
@@ -76,7 +77,8 @@ module _ (p : ℕ → Bool) where
 
   -- n bytes at a time, as the code cuts them out
   pub first_outside-block : (s : List ℕ) (i n : ℕ) → i + n ≤ length s → every p (take (i + n - i) (drop i s)) ≡ true
-      → first_outside p s ≡ i + first_outside p (drop i s) → first_outside p s ≡ i + n + first_outside p (drop (i + n) s)
+      → first_outside p s ≡ i + first_outside p (drop i s)
+      → first_outside p s ≡ i + n + first_outside p (drop (i + n) s)
   first_outside-block s i n h e inv =
       let room : n ≤ length (drop i s) = simp length-drop (omega arith) in
       let next : first_outside p (drop i s) ≡ n + first_outside p (drop (i + n) s)

@@ -21,7 +21,8 @@ pub length-location : (start end : ℕ) (digest : List ℕ)
 unfolding location_text
 length-location start end digest = simp length-append (omega arith)
 
-pub length-allele : (location x : List ℕ) → length (allele_text location x) ≡ length location + (length x + allele_words)
+pub length-allele : (location x : List ℕ)
+    → length (allele_text location x) ≡ length location + (length x + allele_words)
 unfolding allele_text
 length-allele location x = simp length-append (omega arith)
 
@@ -30,7 +31,8 @@ pub allele-same : (l₁ l₂ x₁ x₂ : List ℕ) → length l₁ ≡ length l�
     × (x₁ ≡ x₂)
 unfolding allele_text
 allele-same l₁ l₂ x₁ x₂ n e =
-    let cut = append-same l₁ l₂ (before_sequence ++ (x₁ ++ after_sequence)) (before_sequence ++ (x₂ ++ after_sequence)) n
+    let cut = append-same l₁ l₂ (before_sequence ++ (x₁ ++ after_sequence))
+    (before_sequence ++ (x₂ ++ after_sequence)) n
     (ap (drop (length before_location)) e) in
     let tails : x₁ ++ after_sequence ≡ x₂ ++ after_sequence = ap (drop (length before_sequence)) cut.1 in
     let long : length x₁ ≡ length x₂ =

@@ -43,7 +43,8 @@ allele =
 -- a walk over all its words
 module _ {text : List ℕ} {location middle sequence behind last : Walk}
     (o₁ : Onward (Word before_location) text begun location) (o₂ : Onward Digest text location middle)
-    (o₃ : Onward (Word before_sequence) text middle sequence) (o₄ : Onward (Residues sequence_limit) text sequence behind)
+    (o₃ : Onward (Word before_sequence) text middle sequence)
+    (o₄ : Onward (Residues sequence_limit) text sequence behind)
     (o₅ : Onward (Word after_sequence) text behind last) where
   abbrev walk : Walked layout text begun last
   walk = (

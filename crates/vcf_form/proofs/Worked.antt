@@ -17,7 +17,7 @@ use Rattle.vcf_form.specs.Calls.{vcf_grounds}
 use Rattle.vcf_form.specs.Worked.{Case, answered, cases}
 
 pub worked-lines : map answered cases ≡ map (λ (c : Case). c.answer) cases
-unfolding vcf_grounds line_grounds normal_grounds form_grounds parted upper lettered every first_outside letter residue lcp
-    lcs same altered shorter within ahead behind kind_in kind_of changed_form normal moved_by value_from value number_within
-    decimal enough decimal_in
+unfolding vcf_grounds line_grounds normal_grounds form_grounds parted upper lettered every first_outside letter residue
+    lcp lcs same altered shorter within ahead behind kind_in kind_of changed_form normal moved_by value_from value
+    number_within decimal enough decimal_in
 worked-lines = refl

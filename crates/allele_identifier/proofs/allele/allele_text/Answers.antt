@@ -27,7 +27,11 @@ write_text-requires c =
     let l = c.joined_length.ensures in
     let e = c.in-Accepted.ensures in
     let room = rw l at (sym c.sum_exceeds.ensures ∙ c.if-sum_exceeds.false) in
-    record { fits = allele-fits _ _ _ _ _ _ e; digest_len = allele-digest _ _ _ _ _ _ e; around_sequence_in_bounds = ltb-false _ _ room }
+    record {
+      fits = allele-fits _ _ _ _ _ _ e;
+      digest_len = allele-digest _ _ _ _ _ _ e;
+      around_sequence_in_bounds = ltb-false _ _ room;
+    }
 
 pub returns-else-sum_exceeds : goal.returns-else-sum_exceeds
 returns-else-sum_exceeds c =

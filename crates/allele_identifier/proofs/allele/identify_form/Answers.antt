@@ -17,7 +17,10 @@ returns-then-sum_exceeds c = let room = sym c.sum_exceeds.ensures ∙ c.if-sum_e
 pub place_identifier-requires : goal.place_identifier-requires
 place_identifier-requires c =
     let long : length c.form_hash-hash.result ≡ 64 = search rules in
-    record { digest_length_in_bounds = ltb-false _ _ (sym c.sum_exceeds.ensures ∙ c.if-sum_exceeds.false); in_bounds = omega arith }
+    record {
+      digest_length_in_bounds = ltb-false _ _ (sym c.sum_exceeds.ensures ∙ c.if-sum_exceeds.false);
+      in_bounds = omega arith;
+    }
 
 pub returns : goal.returns
 unfolding identifier_of sha512t24u

@@ -7,10 +7,12 @@ use Rattle.blank.proofs.header.check_blank.Goals as goal
 
 pub returns-then-residues-gt-REFERENCE_LIMIT : goal.returns-then-residues-gt-REFERENCE_LIMIT
 unfolding blank_grounds
-returns-then-residues-gt-REFERENCE_LIMIT c = rw c.refuse.ensures (simp (lt-ltb _ _ c.if-residues-gt-REFERENCE_LIMIT.true))
+returns-then-residues-gt-REFERENCE_LIMIT c =
+    rw c.refuse.ensures (simp (lt-ltb _ _ c.if-residues-gt-REFERENCE_LIMIT.true))
 
 pub returns-in-Accepted : goal.returns-in-Accepted
-returns-in-Accepted c = c.check_capacities.ensures ∙ blank-then _ _ _ _ _ _ (le-ltb _ _ c.if-residues-gt-REFERENCE_LIMIT.false)
+returns-in-Accepted c =
+    c.check_capacities.ensures ∙ blank-then _ _ _ _ _ _ (le-ltb _ _ c.if-residues-gt-REFERENCE_LIMIT.false)
     c.in-Accepted.ensures
 
 pub returns-in-Refused : goal.returns-in-Refused

@@ -2,7 +2,12 @@ use native.Mathlib.Omega.{arith}
 use borrow.Author.Tests.{ltb-true, ltb-false, eqb-true, eqb-false}
 use Rattle.decimals.proofs.Leads.{read_none, read-on, read-end}
 use Rattle.decimals.proofs.decimal.leading_digits.Goals as goal
-use Rattle.decimals.proofs.decimal.leading_digits.Goals.{then-c-lt48-via-then-c-lt48, then-c-lt48-via-else-c-lt48+then-c-gt57, then-most-d-via-then-most-d, then-most-d-via-else-most-d+then-most-d-2, else-length-gt0-via-then-length-gt0+else-number-eq0, else-length-gt0-via-else-length-gt0}
+use Rattle.decimals.proofs.decimal.leading_digits.Goals.{then-c-lt48-via-then-c-lt48}
+use Rattle.decimals.proofs.decimal.leading_digits.Goals.{then-c-lt48-via-else-c-lt48+then-c-gt57}
+use Rattle.decimals.proofs.decimal.leading_digits.Goals.{then-most-d-via-then-most-d}
+use Rattle.decimals.proofs.decimal.leading_digits.Goals.{then-most-d-via-else-most-d+then-most-d-2}
+use Rattle.decimals.proofs.decimal.leading_digits.Goals.{else-length-gt0-via-then-length-gt0+else-number-eq0}
+use Rattle.decimals.proofs.decimal.leading_digits.Goals.{else-length-gt0-via-else-length-gt0}
 
 pub loop-length-init : goal.loop-length-init
 loop-length-init c = read_none _ _

@@ -11,7 +11,8 @@ unfolding image_grounds
 returns-then-not-well_formed c = rw (c.refuse.ensures, sym c.well_formed-2.ensures ∙ c.if-not-well_formed.true)
 
 pub slice_bounds-equal-end : goal.slice_bounds-equal-end
-slice_bounds-equal-end c = let h = (well_formed-formed _ (sym c.well_formed-2.ensures ∙ c.if-not-well_formed.false)).header in
+slice_bounds-equal-end c =
+    let h = (well_formed-formed _ (sym c.well_formed-2.ensures ∙ c.if-not-well_formed.false)).header in
     omega (arith, h.after-header, h.pool, h.whole)
 
 pub returns-then-not-equal : goal.returns-then-not-equal
@@ -24,7 +25,9 @@ returns-then-not-equal c =
     )
 
 pub read_number-requires : goal.read_number-requires
-read_number-requires c = let h = (well_formed-formed _ (sym c.well_formed-2.ensures ∙ c.if-not-well_formed.false)).header in omega (arith, h.after-header, h.pool, h.whole)
+read_number-requires c =
+    let h = (well_formed-formed _ (sym c.well_formed-2.ensures ∙ c.if-not-well_formed.false)).header in
+    omega (arith, h.after-header, h.pool, h.whole)
 
 pub returns-then-reference-read_number : goal.returns-then-reference-read_number
 unfolding image_grounds

@@ -6,7 +6,8 @@ use Rattle.form_entry.proofs.Finding.{found-known, found-again, found-new, enter
 use Rattle.form_entry.proofs.form.enter_form.Goals as goal
 
 pub returns-then-known-gt0 : goal.returns-then-known-gt0
-returns-then-known-gt0 c = enters-as _ _ _ _ _ _ (found-known _ _ _ c.lowest_holding-known.ensures.0 c.if-known-gt0.true)
+returns-then-known-gt0 c =
+    enters-as _ _ _ _ _ _ (found-known _ _ _ c.lowest_holding-known.ensures.0 c.if-known-gt0.true)
     (keeps-accepted _ _ _ _ _ _ _ refl refl refl)
 
 pub returns-then-again-gt0 : goal.returns-then-again-gt0

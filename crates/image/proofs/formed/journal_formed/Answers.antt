@@ -28,8 +28,11 @@ loop-passed-preserved c =
     let journal = c.read_number-journal.ensures.0 in
     let issued = c.read_number-issued.ensures.0 in
     let tested = entry_at b c.loop-passed.passed _ _ _ journal c.read_number.ensures.0 issued in
-    let good = sym tested ∙ sym c.between.ensures ∙ c.if-not-between.false in
-    (omega arith, rw (add-one c.loop-passed.passed) (below_next (entry_good b) c.loop-passed.passed c.loop-passed.invariant.1 good))
+    let good = sym tested ∙ sym c.between.ensures ∙ c.if-not-between.false in (
+      omega arith,
+      rw (add-one c.loop-passed.passed)
+          (below_next (entry_good b) c.loop-passed.passed c.loop-passed.invariant.1 good),
+    )
 
 pub returns : goal.returns
 returns c =

@@ -16,5 +16,6 @@ returns c = let b = c.args.image.now in
       c.read_number-3.ensures.0,
       c.read_number-4.ensures.0,
     )
-    (all-four (leb (record_capacity b) count_limit) (leb (journal_capacity b) count_limit) (leb (pool_capacity b) pool_limit)
+    (all-four (leb (record_capacity b) count_limit) (leb (journal_capacity b) count_limit)
+    (leb (pool_capacity b) pool_limit)
     (leb (reference_length b) reference_limit))

@@ -42,7 +42,8 @@ pub loop-passed-preserved : goal.loop-passed-preserved
 loop-passed-preserved c =
     let b = c.args.image.now in
     let place = c.record_at-at.ensures.0 in
-    let tested = placed_at b c.loop-passed.passed _ _ _ place c.read_number-reference.ensures.0 c.loop-passed.invariant.1 in
+    let tested = placed_at b c.loop-passed.passed _ _ _ place c.read_number-reference.ensures.0
+    c.loop-passed.invariant.1 in
     let good : placed b c.loop-passed.passed ≡ true = sym tested ∙ sym c.record_placed.ensures
     ∙ c.if-not-record_placed.false in (
       omega arith,

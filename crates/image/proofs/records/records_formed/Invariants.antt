@@ -8,7 +8,8 @@ use Rattle.image.proofs.Pool.{placed}
 use Rattle.image.proofs.records.records_formed.Given as goal
 
 abbrev pub invariant-loop-passed : goal.invariant-loop-passed
-invariant-loop-passed l = (l.passed ≤ l.issued) × (l.residues ≡ lengths l.image l.passed) × (l.residues ≤ 2 ^ 32 * l.passed)
+invariant-loop-passed l =
+    (l.passed ≤ l.issued) × (l.residues ≡ lengths l.image l.passed) × (l.residues ≤ 2 ^ 32 * l.passed)
     × (below (placed l.image) l.passed ≡ true)
 
 abbrev pub decreases-loop-passed : goal.decreases-loop-passed

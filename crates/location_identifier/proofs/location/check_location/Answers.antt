@@ -6,7 +6,8 @@ use Rattle.location_identifier.proofs.location.check_location.Goals as goal
 
 pub returns-then-residues-gt-REFERENCE_LIMIT : goal.returns-then-residues-gt-REFERENCE_LIMIT
 unfolding location_answer location_grounds
-returns-then-residues-gt-REFERENCE_LIMIT c = rw c.refuse.ensures (simp (lt-ltb _ _ c.if-residues-gt-REFERENCE_LIMIT.true))
+returns-then-residues-gt-REFERENCE_LIMIT c =
+    rw c.refuse.ensures (simp (lt-ltb _ _ c.if-residues-gt-REFERENCE_LIMIT.true))
 
 pub returns-then-end-start : goal.returns-then-end-start
 unfolding location_answer location_grounds

@@ -4,7 +4,8 @@ use Rattle.lookup.proofs.Held.{holds-steps}
 use Rattle.lookup.proofs.find.holds_form.Goals as goal
 
 pub returns-then-not-holds_numbers : goal.returns-then-not-holds_numbers
-returns-then-not-holds_numbers c = sym (holds-steps _ _ _ _ ∙ rw (sym c.holds_numbers.ensures ∙ c.if-not-holds_numbers.true))
+returns-then-not-holds_numbers c =
+    sym (holds-steps _ _ _ _ ∙ rw (sym c.holds_numbers.ensures ∙ c.if-not-holds_numbers.true))
 
 pub returns : goal.returns
 returns c =

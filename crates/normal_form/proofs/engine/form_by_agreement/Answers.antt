@@ -2,7 +2,8 @@
 use borrow.Author.Tests.{eq-eqb, ne_eqb}
 use Rattle.normal_form.specs.Inner.{agreed_stretches}
 use Rattle.normal_form.proofs.engine.form_by_agreement.Goals as goal
-use Rattle.normal_form.proofs.engine.form_by_agreement.Goals.{else-given-end-via-then-given-end+else-ahead-given, else-given-end-via-else-given-end}
+use Rattle.normal_form.proofs.engine.form_by_agreement.Goals.{else-given-end-via-then-given-end+else-ahead-given}
+use Rattle.normal_form.proofs.engine.form_by_agreement.Goals.{else-given-end-via-else-given-end}
 
 pub returns-then-ahead-given : goal.returns-then-ahead-given
 unfolding agreed_stretches

@@ -18,4 +18,5 @@ put_number-requires c = omega (arith, header-room _ (sym c.well_formed-2.ensures
 pub returns : goal.returns
 unfolding Seals sealed
 returns c =
-    keeps-accepted _ _ _ _ _ _ _ (rw (sym c.well_formed-2.ensures ∙ c.if-not-well_formed.false)) refl c.put_number.ensures
+    keeps-accepted _ _ _ _ _ _ _
+    (rw (sym c.well_formed-2.ensures ∙ c.if-not-well_formed.false)) refl c.put_number.ensures

@@ -5,7 +5,8 @@ use Rattle.register.proofs.withdrawal.check_active.Goals as goal
 
 pub returns-then-status_of-ne-ACTIVE : goal.returns-then-status_of-ne-ACTIVE
 unfolding active_grounds
-returns-then-status_of-ne-ACTIVE c = rw (c.refuse.ensures, ← c.status_of.ensures, ne_eqb _ _ c.if-status_of-ne-ACTIVE.true)
+returns-then-status_of-ne-ACTIVE c =
+    rw (c.refuse.ensures, ← c.status_of.ensures, ne_eqb _ _ c.if-status_of-ne-ACTIVE.true)
 
 pub returns-then-capacity-read_number : goal.returns-then-capacity-read_number
 unfolding active_grounds

@@ -15,7 +15,10 @@ unfolding whole_answer
 place_identifier-requires c =
     let told = c.in-Accepted.ensures in
     let long : length c.of_message-hash.result ≡ 64 = search rules in
-    record { digest_length_in_bounds = tested-room (reference_grounds c.args.reference.now) _ _ _ told; in_bounds = omega arith }
+    record {
+      digest_length_in_bounds = tested-room (reference_grounds c.args.reference.now) _ _ _ told;
+      in_bounds = omega arith;
+    }
 
 pub returns-in-Accepted : goal.returns-in-Accepted
 unfolding whole_answer sequence_identifier sha512t24u

@@ -14,7 +14,10 @@ unfolding finish_answer
 place_identifier-requires c =
     let told = c.in-Accepted.ensures in
     let long : length c.finish-hash.result ≡ 64 = search rules in
-    record { digest_length_in_bounds = tested-room (reference_over_limit c.args.state.total ∷ []) _ _ _ told; in_bounds = omega arith }
+    record {
+      digest_length_in_bounds = tested-room (reference_over_limit c.args.state.total ∷ []) _ _ _ told;
+      in_bounds = omega arith;
+    }
 
 pub returns-in-Accepted : goal.returns-in-Accepted
 unfolding finish_answer

@@ -5,7 +5,8 @@ use Rattle.sha512_block.proofs.Step.{length-schedule}
 use Rattle.sha512_block.proofs.block.compress.Goals as goal
 
 pub all_rounds-requires : goal.all_rounds-requires
-all_rounds-requires c = record { w_len = rw (c.extend.ensures, length-schedule, length-take) (omega arith); k_value = c.requires.k_value }
+all_rounds-requires c =
+    record { w_len = rw (c.extend.ensures, length-schedule, length-take) (omega arith); k_value = c.requires.k_value }
 
 pub returns : goal.returns
 unfolding compressed

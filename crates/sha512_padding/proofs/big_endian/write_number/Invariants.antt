@@ -8,7 +8,8 @@ use Rattle.sha512_padding.proofs.big_endian.write_number.Given as goal
 
 abbrev pub invariant-loop-i : goal.invariant-loop-i
 invariant-loop-i l = (l.i ≤ length l.initial.out)
-    × ((length l.out ≡ length l.initial.out) × (bytes_of (length l.initial.out) l.x ≡ bytes_of l.i l.left ++ drop l.i l.out))
+    × ((length l.out ≡ length l.initial.out)
+    × (bytes_of (length l.initial.out) l.x ≡ bytes_of l.i l.left ++ drop l.i l.out))
 
 abbrev pub decreases-loop-i : goal.decreases-loop-i
 decreases-loop-i l = l.i

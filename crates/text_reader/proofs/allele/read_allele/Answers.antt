@@ -2,7 +2,8 @@
 use mathlib.Core.Logic.{inl, inr}
 use Rattle.text_reader.proofs.AlleleTexts.{allele-accepts, allele-refuses}
 use Rattle.text_reader.proofs.allele.read_allele.Goals as goal
-use Rattle.text_reader.proofs.allele.read_allele.Goals.{else-close-via-then-close+else-close-text, else-close-via-else-close}
+use Rattle.text_reader.proofs.allele.read_allele.Goals.{else-close-via-then-close+else-close-text}
+use Rattle.text_reader.proofs.allele.read_allele.Goals.{else-close-via-else-close}
 
 pub returns-then-close-text : goal.returns-then-close-text
 returns-then-close-text c =

@@ -2,7 +2,8 @@
 use mathlib.Core.Logic.{inl, inr}
 use Rattle.text_reader.proofs.LocationTexts.{location-accepts, location-refuses}
 use Rattle.text_reader.proofs.location.read_location.Goals as goal
-use Rattle.text_reader.proofs.location.read_location.Goals.{else-close-via-then-close+else-close-text, else-close-via-else-close}
+use Rattle.text_reader.proofs.location.read_location.Goals.{else-close-via-then-close+else-close-text}
+use Rattle.text_reader.proofs.location.read_location.Goals.{else-close-via-else-close}
 
 pub returns-then-close-text : goal.returns-then-close-text
 returns-then-close-text c =

@@ -2,7 +2,8 @@
 use borrow.Author.Tests.{le-leb, lt-leb}
 use Rattle.upper_case.specs.Upper.{upper}
 use Rattle.upper_case.proofs.letters.upper_of.Goals as goal
-use Rattle.upper_case.proofs.letters.upper_of.Goals.{else-b-ge97-via-then-b-ge97+else-b-le122, else-b-ge97-via-else-b-ge97}
+use Rattle.upper_case.proofs.letters.upper_of.Goals.{else-b-ge97-via-then-b-ge97+else-b-le122}
+use Rattle.upper_case.proofs.letters.upper_of.Goals.{else-b-ge97-via-else-b-ge97}
 
 pub returns-then-b-le122 : goal.returns-then-b-le122
 unfolding upper

@@ -7,7 +7,8 @@ use Rattle.vcf_line.proofs.Answers.{sited-no-position, sited-compared}
 use Rattle.vcf_line.proofs.sites.read_site.Goals as goal
 
 pub returns-then-reference-gt-REFERENCE_LIMIT : goal.returns-then-reference-gt-REFERENCE_LIMIT
-returns-then-reference-gt-REFERENCE_LIMIT c = rw c.refuse.ensures (sited-over _ _ c.if-reference-gt-REFERENCE_LIMIT.true)
+returns-then-reference-gt-REFERENCE_LIMIT c =
+    rw c.refuse.ensures (sited-over _ _ c.if-reference-gt-REFERENCE_LIMIT.true)
 
 pub returns-in_default : goal.returns-in_default
 returns-in_default c =
