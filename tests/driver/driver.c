@@ -336,7 +336,7 @@ static slice take_repeated(uint64_t head) {
     slice s = apart(head + copies + tail, PROT_READ | PROT_WRITE, 0);
     if (s.at == 0) return s;
     memcpy(s.at, ends, head);
-    for (uint64_t i = 0; i < copies; i++) s.at[head + i] = byte; /* the emulator's memset is far slower */
+    for (uint64_t i = 0; i < copies; i++) s.at[head + i] = byte; /* an emulator's memset is far slower */
     memcpy(s.at + head + copies, ends + head, tail);
     if (mprotect(s.area + PAGE, s.area_size - 2 * PAGE, PROT_READ) != 0) stop("cannot protect memory");
     return s;
