@@ -6,7 +6,8 @@ use mathlib.Core.List.{List, [], ◌∷◌, ◌++◌}
 use lib.ListN.{length}
 use borrow.Author.Tests.{ltb-false}
 use Rattle.stretch.specs.Part.{part}
-use Rattle.refusal.specs.declared.Written.TheVariants.{Bytes}
+use Rattle.std.specs.Prelude.{Result, Ok}
+use Rattle.refusal.specs.declared.Refusal.{Refusal}
 use Rattle.refusal.specs.Limits.{sequence_limit}
 use Rattle.refusal.proofs.Verdict.{none-holds, verdict-fewer, verdict-later}
 use Rattle.refusal.proofs.WritesUnless.{TextWritten, writes-unless-accepted}
@@ -18,8 +19,7 @@ use Rattle.normal_form_calls.specs.Calls.{given_grounds}
 use Rattle.normal_form_calls.proofs.Answers.{given-allele}
 use Rattle.text.specs.Layout.{location_text, before_location, before_sequence}
 use Rattle.words.specs.Vocabulary.{Digest, Residues}
-use Rattle.text_reader.specs.declared.AlleleRead.{AlleleRead}
-use Rattle.text_reader.specs.declared.AlleleRead.TheVariants.{Accepted}
+use Rattle.text_reader.specs.declared.AlleleParts.{AlleleParts}
 use Rattle.text_reader.specs.Accepted.{AlleleText, ReadsAllele, HandsBack}
 use Rattle.text_reader.proofs.Promises.{reads-allele-back, location-of-back, sequence-of-back}
 use Rattle.digest_text.specs.Digest.{sha512t24u}
@@ -29,7 +29,7 @@ use Rattle.allele_identifier.specs.Identifier.{text_of}
 use Rattle.allele_identifier.specs.Calls.{allele_grounds, WritesAllele}
 
 module _ (r : List ℕ) (start end : ℕ) (x digest out : List ℕ) (place k : ℕ) (left : List ℕ)
-    (p : WritesAllele r start end x digest out place (Bytes k) left) where
+    (p : WritesAllele r start end x digest out place (Ok k) left) where
   abbrev form : Normal
   form = normal r start end x
 
@@ -73,8 +73,8 @@ module _ (r : List ℕ) (start end : ℕ) (x digest out : List ℕ) (place k : �
         characters = digest-characters (location_text form.start form.end digest);
       }
 
-  pub allele-back : (answer : AlleleRead) → ReadsAllele (part left place (place + k)) answer
-      → answer ≡ Accepted (record {
+  pub allele-back : (answer : Result AlleleParts Refusal) → ReadsAllele (part left place (place + k)) answer
+      → answer ≡ Ok (record {
         location = length before_location;
         sequence = length before_location + digest_length + length before_sequence;
         length = length form.replacement;

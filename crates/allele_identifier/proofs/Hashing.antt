@@ -3,7 +3,9 @@ use Prim.Native.Nat.{ℕ, ◌+◌, ◌^◌, ◌<◌}
 use native.Mathlib.Omega.{arith}
 use mathlib.Core.Path.{◌≡◌, ◌∙◌, sym, ap, subst}
 use mathlib.Core.List.{List, [], ◌∷◌, ◌++◌, append_assoc}
-use lib.ListN.{length, length-append}
+use lib.ListN.{length, length-append, drop, get_or}
+use Rattle.std.proofs.lemmas.List.{drop_more}
+use Rattle.std.proofs.Common.{Bor}
 use Rattle.normal_form.specs.declared.Stretches.{Stretches}
 use Rattle.normal_form.specs.Form.{Normal}
 use Rattle.normal_form.specs.Stretches.{Fits, joined as joined_stretches, joined_length, form_in}
@@ -12,11 +14,22 @@ use Rattle.text.specs.Layout.{location_text, allele_text, allele_words, before_l
 use Rattle.text.specs.Layout.{before_sequence, after_sequence}
 use Rattle.text.proofs.Layouts.{length-allele}
 use Rattle.sha512.specs.Message.{sha512}
-use Rattle.sha512.specs.Feeding.{begun, joined, fed_all, finished}
+use Rattle.sha512.specs.declared.Running.{Running}
+use Rattle.sha512.specs.Feeding.{begun, fed, joined, fed_all, finished}
 use Rattle.sha512.proofs.Join.{parts_join}
 use Rattle.digest_text.specs.Digest.{sha512t24u}
 use Rattle.digest_text.proofs.Encoding.{length-sha512t24u}
 use Rattle.allele_identifier.specs.Identifier.{text_of, identifier_of, around_sequence, allele_identifier_length}
+
+-- the bytes of stretches that are lent
+abbrev pub lent : List (Bor (List ℕ)) → List (List ℕ)
+lent [] = []
+lent (part ∷ parts) = part.now ∷ lent parts
+
+-- one more of them
+pub fed-next : (state : Running) (parts : List (Bor (List ℕ))) (i : ℕ) (d : Bor (List ℕ)) → i < length parts
+    → fed_all (fed state (get_or parts i d).now) (lent (drop (i + 1) parts)) ≡ fed_all state (lent (drop i parts))
+fed-next state parts i d h = ap (λ (l : List (Bor (List ℕ))). fed_all state (lent l)) (sym (drop_more parts i d h))
 
 abbrev pieces : List ℕ → List ℕ → List ℕ → List ℕ → List (List ℕ)
 pieces location a b c = before_location ∷ location ∷ before_sequence ∷ a ∷ b ∷ c ∷ after_sequence ∷ []

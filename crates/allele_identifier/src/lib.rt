@@ -9,9 +9,9 @@ mod hash;
 
 pub use allele::{allele_identifier, allele_text};
 
-// The answer of an allele's identifier: the count of bytes written, and how far the normal form moved.
+// What an allele's identifier answers: the count of bytes written, and how far the normal form moved.
 #[derive(Clone, Copy)]
-pub enum Identified {
-    Bytes(u64, moved::Moved),
-    Refused(refusal::Refusal),
+pub struct Identified {
+    pub length: u64,
+    pub moved: moved::Moved,
 }

@@ -2,14 +2,15 @@
 // program makes, tests/second/allele_vectors.py.
 #![tactic(auto)]
 
-mod alleles;
+mod allele;
+mod forms;
 mod readings;
 mod texts;
 
 use std::io;
 
 fn main(rt: HostRuntime) -> io::Result<()> {
-    alleles::lines(&rt)?;
+    forms::lines(&rt)?;
     texts::lines(&rt)?;
     readings::lines(&rt)
 }

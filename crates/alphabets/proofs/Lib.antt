@@ -1,3 +1,4 @@
+pub mod Asked
 pub mod Foreign
 pub mod Letters
 pub mod Ranges

@@ -1,18 +1,15 @@
--- Classes of bytes said in two ways: one computed test of all bytes, and the rule at each. The base64url alphabet as
--- ranges, and the residues as a list.
+-- Classes of bytes said in two ways: one computed test of all bytes, and the rule at each. Letters and the base64url
+-- alphabet as std says them, and the residues as a list.
 use Prim.Native.Nat.{ℕ, ◌<◌}
 use mathlib.Core.Path.{◌≡◌, refl}
-use mathlib.Core.Bool.{Bool, true, false, cond, beq}
+use mathlib.Core.Bool.{Bool, true, false, beq, ◌||◌}
+use Rattle.std.specs.Prelude.{◌==◌}
+use Rattle.std.specs.Char.{is_ascii_uppercase, is_ascii_alphanumeric}
 use mathlib.Core.List.{List}
-use lib.Dec.{ltb, leb, eqb}
 use Rattle.stretch.specs.Ascii.{ascii}
 use Rattle.stretch.specs.Below.{below}
 use Rattle.stretch.proofs.Below.{below_at}
 use Rattle.alphabets.specs.Alphabets.{letter, residue, occurs, base64url}
-
-unfoldable pub ranged : ℕ → Bool
-ranged c = cond (ltb c 48) (eqb c 45)
-    (cond (ltb c 65) (leb c 57) (cond (ltb c 97) (cond (leb c 90) true (eqb c 95)) (leb c 122)))
 
 beq-eq : (a b : Bool) → beq a b ≡ true → a ≡ b
 beq-eq true true h = refl
@@ -28,9 +25,14 @@ module _ (p q : ℕ → Bool) where
   unfolding agrees
   at_byte every_byte c h = beq-eq (p c) (q c) (below_at agrees 256 every_byte c h)
 
-pub ranged-right : (c : ℕ) → c < 256 → ranged c ≡ base64url c
-unfolding below agrees ranged base64url
-ranged-right = at_byte ranged base64url refl
+-- the classes as std's words for ASCII say them
+pub uppercase-letter : (b : ℕ) → b < 256 → is_ascii_uppercase b ≡ letter b
+unfolding below agrees letter
+uppercase-letter = at_byte is_ascii_uppercase letter refl
+
+pub alphanumeric-base64url : (b : ℕ) → b < 256 → ((is_ascii_alphanumeric b || (b == 45)) || (b == 95)) ≡ base64url b
+unfolding below agrees base64url
+alphanumeric-base64url = at_byte (λ (b : ℕ). (is_ascii_alphanumeric b || (b == 45)) || (b == 95)) base64url refl
 
 -- the characters that the schema of VRS lets a sequence have
 abbrev pub pattern : List ℕ

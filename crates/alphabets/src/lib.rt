@@ -3,7 +3,9 @@
 #![tactic(auto)]
 
 mod base64;
+mod class;
 mod residues;
 
-pub use base64::{DIGEST_LENGTH, check_digest_text, first_outside_base64url};
-pub use residues::{first_foreign, is_letter};
+pub use base64::{Base64url, DIGEST_LENGTH, check_digest_text, first_outside_base64url};
+pub use class::{Class, all_of, first_outside};
+pub use residues::{Letter, Residue, first_foreign, is_letter};

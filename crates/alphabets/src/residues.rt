@@ -1,56 +1,46 @@
 // Residues, tested a block at a time.
-ghost use Rattle.std.specs.Prelude.{◌≡◌, cond, ◌+◌, ◌≤◌, length, drop};
+ghost use Rattle.std.specs.Prelude.{◌≡◌, ◌+◌, ◌≤◌, length, drop};
 ghost use Rattle.stretch.specs.Class.{every};
 ghost use Rattle.alphabets.specs.Alphabets.{letter, residue, foreign};
+
+use super::class::{Class, all_of, first_outside};
 
 // How many bytes are tested before one of them is looked for.
 const BLOCK: usize = 1024;
 
-// What all bytes of a stretch are asked to be.
-const LETTERS: bool = true;
+// The letters from A to Z.
+pub struct Letter;
 
-const RESIDUES: bool = false;
+impl Class for Letter {
+    ghost class = { letter };
+
+    fn contains(b: u8) -> bool {
+        b.is_ascii_uppercase()
+    }
+}
+
+// Letters, the stop and the gap.
+pub struct Residue;
+
+impl Class for Residue {
+    ghost class = { residue };
+
+    fn contains(b: u8) -> bool {
+        is_letter(b) | (b == b'*') | (b == b'-')
+    }
+}
 
 pub fn is_letter(b: u8) -> bool
     ensures { result ≡ letter b }
 {
-    b'A' <= b && b <= b'Z'
-}
-
-fn is_residue(b: u8) -> bool
-    ensures { result ≡ residue b }
-{
-    is_letter(b) | (b == b'*') | (b == b'-')
-}
-
-fn is_of(b: u8, letters: bool) -> bool
-    ensures { result ≡ cond letters letter residue b }
-{
-    if letters {
-        return is_letter(b);
-    }
-    is_residue(b)
-}
-
-// Whether every byte is a letter, or a residue. It looks at all of them, without a way out of the loop, so
-// that the compiler can test many at a step.
-fn all_of(s: &[u8], letters: bool) -> bool
-    ensures { result ≡ every (cond letters letter residue) s.now }
-{
-    let mut all = true;
-    let mut i = 0;
-    while i < s.len() {
-        all = all & is_of(s[i], letters);
-        i += 1;
-    }
-    all
+    Letter::contains(b)
 }
 
 // Whether every byte is a residue. Most blocks are letters alone, which takes half the time to test.
 fn all_residues(s: &[u8]) -> bool
     ensures { result ≡ every residue s.now }
 {
-    all_of(s, LETTERS) || all_of(s, RESIDUES)
+    all_of::<Letter>(s) || all_of::<Residue>(s)
 }
 
 // How many bytes lie in the blocks of residues that `s` begins with. What is left behind its last whole block
@@ -59,29 +49,23 @@ fn clean_blocks(s: &[u8]) -> usize
     ensures upper_bound { result ≤ length s.now }
     ensures s_value { foreign s.now ≡ result + foreign (drop result s.now) }
 {
-    let mut i = 0;
-    while BLOCK <= s.len() - i {
-        if !all_residues(&s[i..i + BLOCK]) {
-            return i;
+    let mut clean = 0;
+    for block in s.chunks_exact(BLOCK) {
+        if !all_residues(block) {
+            return clean;
         }
-        i += BLOCK;
+        clean += block.len();
     }
-    if all_of(&s[i..], LETTERS) {
+    if all_of::<Letter>(&s[clean..]) {
         return s.len();
     }
-    i
+    clean
 }
 
 // The offset of the first byte that is no residue, or the length where there is none.
 pub fn first_foreign(s: &[u8]) -> usize
     ensures { result ≡ foreign s.now }
 {
-    let mut i = clean_blocks(s);
-    while i < s.len() {
-        if !is_residue(s[i]) {
-            return i;
-        }
-        i += 1;
-    }
-    i
+    let clean = clean_blocks(s);
+    clean + first_outside::<Residue>(&s[clean..])
 }

@@ -7,10 +7,12 @@ use mathlib.Core.List.{List, [], ◌∷◌}
 use lib.Dec.{leb, eqb}
 use lib.ListN.{length, get_or, length-append}
 use borrow.Author.Tests.{leb-true}
+use Rattle.std.specs.Prelude.{Option, Some, None}
 use Rattle.stretch.specs.Ascii.{ascii}
 use Rattle.stretch.specs.Same.{same}
 use Rattle.stretch.proofs.Cases.{by_cases}
 use Rattle.refusal.specs.declared.Refusal.{Refusal}
+use Rattle.refusal.specs.Numbers.{number_of}
 use Rattle.refusal.specs.Verdict.{Ground, Verdict, accepted, refused, unless, verdict}
 use Rattle.normal_form.specs.declared.Interval.{Interval}
 use Rattle.normal_form.specs.Form.{Normal, normal}
@@ -18,9 +20,7 @@ use Rattle.normal_form.proofs.Laws.{normal-ordered, normal-inside, normal-short}
 use Rattle.moved.specs.Moved.{moved, interval, interval_of, moved_by}
 use Rattle.normal_form_calls.specs.Calls.{form_grounds}
 use Rattle.normal_form_calls.proofs.Answers.{clean-allele}
-use Rattle.decimals.specs.declared.Number.{Number}
-use Rattle.decimals.specs.declared.Number.TheVariants.{Is, Absent}
-use Rattle.decimals.specs.Number.{number_of}
+use Rattle.decimals.specs.Number.{number_of as decimal_number}
 use Rattle.decimals.proofs.Digits.{decimal-within}
 use Rattle.fields.specs.Cut.{parted, on_first}
 use Rattle.input_line.specs.Meaning.{Meaning, unread, allele, space, replacement_of, numbered, meaning_of_fields}
@@ -52,10 +52,10 @@ replacement-short : (f : List ℕ) → length (replacement_of f) ≤ length f
 unfolding replacement_of
 replacement-short f = by_cases (same f (ascii ".")) (λ e. rw e (omega arith)) (λ e. rw e (omega arith))
 
-numbered_is : (a b : Number) (y : List ℕ) (start end : ℕ) (x : List ℕ) → numbered a b y ≡ allele start end x → y ≡ x
-numbered_is (Is m) (Is n) y start end x e = cc
-numbered_is (Is m) Absent y start end x e = cc
-numbered_is Absent b y start end x e = cc
+numbered_is : (a b : Option ℕ) (y : List ℕ) (start end : ℕ) (x : List ℕ) → numbered a b y ≡ allele start end x → y ≡ x
+numbered_is (Some m) (Some n) y start end x e = cc
+numbered_is (Some m) None y start end x e = cc
+numbered_is None b y start end x e = cc
 
 meaning-short : (fields : List (List ℕ)) (start end : ℕ) (x : List ℕ) → meaning_of_fields fields ≡ allele start end x
     → length x ≤ length (get_or fields 2 [])
@@ -67,27 +67,29 @@ meaning-short (a ∷ b ∷ (c ∷ y) ∷ []) start end x e =
     omega (
       arith,
       replacement-short (c ∷ y),
-      ap length (numbered_is (number_of a) (number_of b) (replacement_of (c ∷ y)) start end x e),
+      ap length (numbered_is (decimal_number a) (decimal_number b) (replacement_of (c ∷ y)) start end x e),
     )
 meaning-short (a ∷ b ∷ y ∷ w ∷ fields) start end x e = let z : ◌≡◌ {A = ℕ} 0 1 = cc in absurd (omega arith)
 
 -- a refusal has the number of one of its grounds
 numbers : ℕ → List Ground → Bool
 numbers k [] = true
-numbers k (g ∷ gs) = cond (leb g.number k) (numbers k gs) false
+numbers k (g ∷ gs) = cond (leb (number_of g.reason) k) (numbers k gs) false
 
-first-number : (b : Bool) (p q : Refusal) (v : Verdict) (k : ℕ) → p.number ≤ k → (v ≡ refused q → q.number ≤ k)
-    → unless b p v ≡ refused q → q.number ≤ k
-first-number true p q v k h f e = let z : p.number ≡ q.number = cc in omega arith
+first-number : (b : Bool) (p q : Refusal) (v : Verdict) (k : ℕ) → number_of p.reason ≤ k
+    → (v ≡ refused q → number_of q.reason ≤ k)
+    → unless b p v ≡ refused q → number_of q.reason ≤ k
+first-number true p q v k h f e = let z : number_of p.reason ≡ number_of q.reason = cc in omega arith
 first-number false p q v k h f e = f e
 
-number-within : (k : ℕ) (gs : List Ground) (q : Refusal) → numbers k gs ≡ true → verdict gs ≡ refused q → q.number ≤ k
+number-within : (k : ℕ) (gs : List Ground) (q : Refusal) → numbers k gs ≡ true → verdict gs ≡ refused q
+    → number_of q.reason ≤ k
 unfolding numbers
 number-within k [] q h e = let z : ◌≡◌ {A = ℕ} 0 1 = cc in absurd (omega arith)
 number-within k (g ∷ gs) q h e =
-    by_cases (leb g.number k)
-    (λ t. first-number g.holds (record { number = g.number; value = g.value }) q (verdict gs) k
-    (leb-true g.number k t) (number-within k gs q (rw t at h)) e)
+    by_cases (leb (number_of g.reason) k)
+    (λ t. first-number g.holds (record { reason = g.reason; value = g.value }) q (verdict gs) k
+    (leb-true (number_of g.reason) k t) (number-within k gs q (rw t at h)) e)
     (λ t. let f : false ≡ true = rw t at h in let z : ◌≡◌ {A = ℕ} 0 1 = cc in absurd (omega arith))
 
 shown-short : (x : List ℕ) → length (shown x) ≤ length x + 1
@@ -121,8 +123,8 @@ module _ (r : List ℕ) (start end : ℕ) (x : List ℕ) where
       ≤ length r + length x + front_room + moves_room
   unfolding moved_by
   verdict-short (refused q) e =
-      let l : q.number ≤ 5 = number-within 5 (form_grounds r start end x) q five e in
-      simp length-append (omega (arith, decimal-within q.number (omega arith)))
+      let l : number_of q.reason ≤ 5 = number-within 5 (form_grounds r start end x) q five e in
+      simp length-append (omega (arith, decimal-within (number_of q.reason) (omega arith)))
   verdict-short accepted e =
       let a = clean-allele r start end x e in
       let o = normal-ordered r start end x a.ordered in

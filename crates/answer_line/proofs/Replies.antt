@@ -7,13 +7,14 @@ use lib.ListN.{length, take, drop}
 use borrow.Author.Tests.{ne_eqb}
 use Rattle.stretch.specs.Ascii.{ascii}
 use Rattle.stretch.proofs.Tail.{lent-tail}
+use Rattle.std.specs.Prelude.{Ok, Err}
 use Rattle.refusal.specs.declared.Refusal.{Refusal}
+use Rattle.refusal.specs.Numbers.{number_of}
 use Rattle.normal_form.specs.declared.Kind.{Kind}
 use Rattle.normal_form.specs.declared.Stretches.{Stretches}
 use Rattle.normal_form.specs.Stretches.{form_in}
 use Rattle.moved.specs.declared.Moved.{Moved}
 use Rattle.moved.specs.Moved.{moved_in}
-use Rattle.normal_form_calls.specs.declared.Located.TheVariants.{Accepted, Refused}
 use Rattle.normal_form_calls.specs.Calls.{located_clean}
 use Rattle.normal_form_calls.proofs.Answers.{clean-accepted, clean-refused, clean-form, clean-moved}
 use Rattle.decimals.specs.Decimal.{decimal}
@@ -38,15 +39,15 @@ form-line k start end (c ∷ t) m n e =
     rw (e, ne_eqb (length (c ∷ t)) 0 (λ z. omega arith), front-line start end k (ascii " ")) (simp append_assoc)
 
 module _ (r : List ℕ) (start end : ℕ) (x : List ℕ) where
-  pub accepted-line : (w : Stretches) → Accepted w ≡ located_clean r start end x
+  pub accepted-line : (w : Stretches) → Ok w ≡ located_clean r start end x
       → allele_reply r start end x ++ (line_feed ∷ []) ≡ form_reply (form_in r x w) (moved_in w) ++ (line_feed ∷ [])
   accepted-line w e =
       let f = sym (clean-form r start end x w e) in
       let m = sym (clean-moved r start end x w e) in
       rw (clean-accepted r start end x w e).0 (λ i. form_reply (f i) (m i) ++ (line_feed ∷ []))
 
-  pub refused-line : (why : Refusal) → Refused why ≡ located_clean r start end x
-      → allele_reply r start end x ++ (line_feed ∷ []) ≡ refused_line why.number
+  pub refused-line : (why : Refusal) → Err why ≡ located_clean r start end x
+      → allele_reply r start end x ++ (line_feed ∷ []) ≡ refused_line (number_of why.reason)
   refused-line why e = rw (clean-refused r start end x why e)
 
 module _ (r line : List ℕ) where

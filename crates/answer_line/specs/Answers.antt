@@ -1,6 +1,7 @@
 -- Document 01, "The line program", and document 02, Q-5: what is printed for a line.
 use Rattle.std.specs.Prelude.{ℕ, ◌+◌, ◌≤◌, List, [], ◌∷◌, ◌++◌, length}
 use Rattle.stretch.specs.Ascii.{ascii}
+use Rattle.refusal.specs.Numbers.{number_of}
 use Rattle.refusal.specs.Verdict.{Verdict, accepted, refused, verdict}
 use Rattle.normal_form.specs.declared.Kind.{Kind}
 use Rattle.normal_form.specs.declared.Kind.TheVariants.{Unchanged, Substitution, Indel}
@@ -39,7 +40,7 @@ form_reply f m = decimal f.start
 
 -- a refusal's number, or the normal form
 abbrev pub verdict_text : Verdict → Normal → Moved → List ℕ
-verdict_text (refused q) f m = ascii "refused " ++ decimal q.number
+verdict_text (refused q) f m = ascii "refused " ++ decimal (number_of q.reason)
 verdict_text accepted f m = form_reply f m
 
 -- the answer to an allele, and to what a line says

@@ -8,10 +8,10 @@ ghost use Rattle.answer_line.specs.Answers.{form_reply, allele_reply, answer_lin
 ghost use Rattle.answer_line.specs.Inner.{head, stop};
 
 use super::write::{put_moves, write_head, write_refused};
-use input_line::{Line, read_line};
+use input_line::read_line;
 use moved::moved_of;
 use normal_form::{Stretches, joined_length};
-use normal_form_calls::{Located, locate_clean, write_form};
+use normal_form_calls::{locate_clean, write_form};
 use stretch::put;
 
 // The front of a form whose replacement has so many residues.
@@ -20,11 +20,8 @@ fn form_head(out: &mut [u8], w: Stretches, residues: usize) -> usize
     ensures wrote { Wrote out.old 0 (head w.start w.end w.kind (stop residues)) out.new result }
     ensures upper_bound { result ≤ front_room }
 {
-    let kind = w.kind;
-    if residues == 0 {
-        return write_head(out, w.start as u64, w.end as u64, kind, b" .");
-    }
-    write_head(out, w.start as u64, w.end as u64, kind, b" ")
+    let behind: &[u8] = if residues == 0 { b" ." } else { b" " };
+    write_head(out, w.start as u64, w.end as u64, w.kind, behind)
 }
 
 fn answer_form(reference: &[u8], replacement: &[u8], w: Stretches, out: &mut [u8]) -> usize
@@ -52,8 +49,8 @@ fn answer_allele(
         out.new result }
 {
     match locate_clean(reference, start, end, replacement) {
-        Located::Accepted(w) => answer_form(reference, replacement, w, out),
-        Located::Refused(why) => write_refused(out, why.number),
+        Ok(w) => answer_form(reference, replacement, w, out),
+        Err(why) => write_refused(out, u64::from(why.reason)),
     }
 }
 
@@ -62,15 +59,8 @@ pub fn answer(reference: &[u8], line: &[u8], out: &mut [u8]) -> usize
     requires { Room reference.now line.now out.old }
     ensures { Wrote out.old 0 (answer_line reference.now line.now) out.new result }
 {
-    let meant = read_line(line);
-    match meant {
-        Line::Allele { start, end, from } => answer_allele(
-            reference,
-            start,
-            end,
-            &line[from..],
-            out,
-        ),
-        Line::Unread => put(out, 0, b"unread\n"),
-    }
+    let Some(meant) = read_line(line) else {
+        return put(out, 0, b"unread\n");
+    };
+    answer_allele(reference, meant.start, meant.end, &line[meant.from..], out)
 }

@@ -1,5 +1,5 @@
 // The parts of an answer, laid one after the other.
-ghost use Rattle.std.specs.Prelude.{◌++◌, ◌∷◌, [], ◌+◌, ◌≤◌, ◌<◌, length};
+ghost use Rattle.std.specs.Prelude.{◌≡◌, ◌++◌, ◌∷◌, [], ◌+◌, ◌≤◌, ◌<◌, length};
 ghost use Rattle.stretch.specs.Over.{Wrote};
 ghost use Rattle.decimals.specs.Decimal.{decimal};
 ghost use Rattle.input_line.specs.Meaning.{space, line_feed};
@@ -21,15 +21,15 @@ fn put_after(out: &mut [u8], at: usize, front: &[u8], n: u64) -> usize
     put_decimal(out, digits, n)
 }
 
-fn put_word(out: &mut [u8], at: usize, kind: Kind) -> usize
-    requires { at + 13 ≤ length out.old }
-    ensures wrote { Wrote out.old at (space ∷ word kind) out.new result }
-    ensures upper_bound { result ≤ at + 13 }
+// A kind in words, after a space.
+fn word_of(kind: Kind) -> &'static [u8]
+    ensures text { result.now ≡ space ∷ word kind }
+    ensures upper_bound { length result.now ≤ 13 }
 {
     match kind {
-        Kind::Unchanged => put(out, at, b" unchanged"),
-        Kind::Substitution => put(out, at, b" substitution"),
-        Kind::Indel => put(out, at, b" indel"),
+        Kind::Unchanged => b" unchanged",
+        Kind::Substitution => b" substitution",
+        Kind::Indel => b" indel",
     }
 }
 
@@ -39,10 +39,10 @@ pub fn write_head(out: &mut [u8], start: u64, end: u64, kind: Kind, behind: &[u8
     ensures wrote { Wrote out.old 0 (head start end kind behind.now) out.new result }
     ensures upper_bound { result ≤ front_room }
 {
-    let a = put_decimal(out, 0, start);
-    let b = put_after(out, a, b" ", end);
-    let c = put_word(out, b, kind);
-    put(out, c, behind)
+    let at = put_decimal(out, 0, start);
+    let at = put_after(out, at, b" ", end);
+    let at = put(out, at, word_of(kind));
+    put(out, at, behind)
 }
 
 pub fn write_refused(out: &mut [u8], number: u64) -> usize
@@ -58,11 +58,14 @@ pub fn put_moves(out: &mut [u8], at: usize, m: Moved) -> usize
     requires { at + moves_room < length out.old }
     ensures { Wrote out.old at (shown_moves m ++ (line_feed ∷ [])) out.new result }
 {
-    let left = m.left;
-    let right = m.right;
-    let a = put_after(out, at, b" ", left.widened);
-    let b = put_after(out, a, b" ", left.shrunk);
-    let c = put_after(out, b, b" ", right.widened);
-    let d = put_after(out, c, b" ", right.shrunk);
-    put(out, d, b"\n")
+    let mut next = at;
+    for number in [
+        m.left.widened,
+        m.left.shrunk,
+        m.right.widened,
+        m.right.shrunk,
+    ] {
+        next = put_after(out, next, b" ", number);
+    }
+    put(out, next, b"\n")
 }

@@ -6,13 +6,14 @@ use mathlib.Core.Bool.{true, false}
 use mathlib.Core.List.{List, [], ◌∷◌, ◌++◌}
 use lib.Dec.{ltb}
 use lib.ListN.{length}
+use Rattle.std.specs.Prelude.{Ok, Err}
 use borrow.Author.Tests.{ltb-false}
 use Rattle.refusal.specs.Limits.{reference_limit}
 use Rattle.refusal.specs.declared.Refusal.{Refusal}
-use Rattle.refusal.specs.declared.Outcome.TheVariants.{Accepted, Refused}
+use Rattle.refusal.specs.declared.Reason.TheVariants.{OverLimit}
 use Rattle.refusal.specs.Verdict.{ground, accepted, verdict}
 use Rattle.refusal.proofs.Verdict.{none-holds, verdict-first, verdict-then, verdict-fewer, verdict-later}
-use Rattle.refusal.proofs.Verdict.{outcome-accepted, outcome-refused}
+use Rattle.refusal.proofs.Verdict.{told-accepted, told-refused}
 use Rattle.stretch.specs.Class.{every}
 use Rattle.alphabets.specs.Alphabets.{base64url, digest_text_grounds, digest_text_answer, digest_length}
 use Rattle.alphabets.proofs.DigestText.{digest-long, digest-all}
@@ -23,22 +24,22 @@ use Rattle.blank.specs.Inner.{capacity_answer, blank_answer}
 
 -- 9 after 1 and 7
 module _ (room n : ℕ) (digest : List ℕ) (records journal pool : ℕ) where
-  pub blank-then : ltb reference_limit n ≡ false → Accepted ≡ digest_text_answer digest
+  pub blank-then : ltb reference_limit n ≡ false → (u : Unit {0}) → Ok u ≡ digest_text_answer digest
       → capacity_answer room records journal pool ≡ blank_answer room n digest records journal pool
   unfolding blank_grounds
-  blank-then l e = rw (
+  blank-then l u e = rw (
     l,
-    verdict-then (digest_text_grounds digest) (capacity_grounds room records journal pool) (outcome-accepted _ e),
+    verdict-then (digest_text_grounds digest) (capacity_grounds room records journal pool) (told-accepted _ tt u e).0,
   )
 
-  pub blank-digest : ltb reference_limit n ≡ false → (why : Refusal) → Refused why ≡ digest_text_answer digest
-      → Refused why ≡ blank_answer room n digest records journal pool
+  pub blank-digest : ltb reference_limit n ≡ false → (why : Refusal) → Err why ≡ digest_text_answer digest
+      → Err why ≡ blank_answer room n digest records journal pool
   unfolding blank_grounds
   blank-digest l why e =
       rw (
         l,
         verdict-first (digest_text_grounds digest) (capacity_grounds room records journal pool) why
-            (outcome-refused _ why e),
+            (told-refused _ tt why e),
       )
 
 -- an accepted blank: the reference's length and the capacities within their limits, 32 base64url characters, and room
@@ -57,7 +58,7 @@ pub accepted-blankable : (room n : ℕ) (digest : List ℕ) (records journal poo
     → Blankable room n digest records journal pool
 unfolding blank_grounds
 accepted-blankable room n digest records journal pool v =
-    let one = ground (ltb reference_limit n) 1 0 ∷ [] in
+    let one = ground (ltb reference_limit n) OverLimit 0 ∷ [] in
     let seven = digest_text_grounds digest in
     let nine = capacity_grounds room records journal pool in
     let rest = verdict-later one (seven ++ nine) v in
@@ -74,3 +75,10 @@ accepted-blankable room n digest records journal pool v =
       fits = fits;
       headed = omega (arith, fits, header-journal records, journal-pool records journal);
     }
+
+-- what the tests tell where they pass
+pub answered-blankable : (room n : ℕ) (digest : List ℕ) (records journal pool : ℕ) (u : Unit {0})
+    → Ok u ≡ blank_answer room n digest records journal pool → Blankable room n digest records journal pool
+answered-blankable room n digest records journal pool u e =
+    accepted-blankable room n digest records journal pool
+    (told-accepted (verdict (blank_grounds room n digest records journal pool)) tt u e).0

@@ -1,9 +1,9 @@
 -- What a blank promises: its grounds in document 01's order, the answer, and what is left of the image.
-use Rattle.std.specs.Prelude.{ℕ, List, [], ◌∷◌, ◌++◌, ltb, length}
+use Rattle.std.specs.Prelude.{ℕ, List, [], ◌∷◌, ◌++◌, ltb, length, Result}
 use Rattle.refusal.specs.Grounds.{reference_over_limit}
 use Rattle.refusal.specs.Verdict.{Ground, ground, verdict}
-use Rattle.refusal.specs.declared.Outcome.{Outcome}
-use Rattle.refusal.specs.declared.Outcome.TheVariants.{Accepted, Refused}
+use Rattle.refusal.specs.declared.Refusal.{Refusal}
+use Rattle.refusal.specs.declared.Reason.TheVariants.{NoRoomForImage}
 use Rattle.alphabets.specs.Alphabets.{digest_text_grounds}
 use Rattle.image.specs.Fields.{count_limit, pool_limit, image_size}
 use Rattle.changes.specs.Changes.{blanked}
@@ -11,10 +11,10 @@ use Rattle.refusal.specs.Keeps.{Keeps}
 
 -- 9: a capacity over its limit, and a buffer too short for the image
 abbrev pub capacity_over_limit : ℕ → ℕ → Ground
-capacity_over_limit limit capacity = ground (ltb limit capacity) 9 0
+capacity_over_limit limit capacity = ground (ltb limit capacity) NoRoomForImage 0
 
 abbrev pub buffer_too_short : ℕ → ℕ → Ground
-buffer_too_short room size = ground (ltb room size) 9 size
+buffer_too_short room size = ground (ltb room size) NoRoomForImage size
 
 -- the capacities, and then the room: 9
 abbrev pub capacity_grounds : ℕ → ℕ → ℕ → ℕ → List Ground
@@ -30,7 +30,7 @@ unfoldable pub blank_grounds : ℕ → ℕ → List ℕ → ℕ → ℕ → ℕ 
 blank_grounds room n digest records journal pool =
     reference_over_limit n ∷ (digest_text_grounds digest ++ capacity_grounds room records journal pool)
 
-abbrev pub Blanks : List ℕ → ℕ → List ℕ → ℕ → ℕ → ℕ → Outcome → List ℕ → Type 0
+abbrev pub Blanks : List ℕ → ℕ → List ℕ → ℕ → ℕ → ℕ → Result (Unit {0}) Refusal → List ℕ → Type 0
 Blanks b n digest records journal pool =
-    Keeps Refused (verdict (blank_grounds (length b) n digest records journal pool)) Accepted b
+    Keeps (verdict (blank_grounds (length b) n digest records journal pool)) tt b
     (blanked b n digest records journal pool)

@@ -6,33 +6,33 @@ ghost use Rattle.changes.specs.Changes.{blanked};
 ghost use Rattle.blank.specs.Calls.{Blanks};
 ghost use Rattle.blank.specs.Inner.{capacity_answer, blank_answer};
 
+use super::Capacities;
 use alphabets::check_digest_text;
-use changes::put_four;
+use changes::put_numbers;
 use image::{
-    COUNT_LIMIT, DIGEST_AT, EDITION_AT, FIRST_EDITION, HEADER_SIZE, JOURNAL_CAPACITY_AT,
-    POOL_LIMIT, POOL_OFFSET_AT, POOL_USED_AT, REFERENCE_LENGTH_AT, journal_at, pool_at, put_number,
+    COUNT_LIMIT, DIGEST_AT, EDITION_AT, FIRST_EDITION, HEADER_SIZE, POOL_LIMIT, journal_at, pool_at,
 };
-use refusal::{NO_ROOM_FOR_IMAGE, OVER_LIMIT, Outcome, REFERENCE_LIMIT, refuse};
+use refusal::{REFERENCE_LIMIT, Reason, Refusal, refuse};
 use stretch::copy_at;
 
 // 9: the capacities, then the buffer, of that much room.
-fn check_capacities(room: u64, records: u64, journal: u64, pool: u64) -> Outcome
-    ensures { result ≡ capacity_answer room records journal pool }
+fn check_capacities(room: u64, capacities: Capacities) -> Result<(), Refusal>
+    ensures { result ≡ capacity_answer room capacities.records capacities.journal capacities.pool }
 {
-    if (COUNT_LIMIT as u64) < records {
-        return Outcome::Refused(refuse(NO_ROOM_FOR_IMAGE, 0));
-    }
-    if (COUNT_LIMIT as u64) < journal {
-        return Outcome::Refused(refuse(NO_ROOM_FOR_IMAGE, 0));
-    }
-    if (POOL_LIMIT as u64) < pool {
-        return Outcome::Refused(refuse(NO_ROOM_FOR_IMAGE, 0));
+    let Capacities {
+        records,
+        journal,
+        pool,
+    } = capacities;
+    let count_limit = COUNT_LIMIT as u64;
+    if count_limit < records || count_limit < journal || (POOL_LIMIT as u64) < pool {
+        return Err(refuse(Reason::NoRoomForImage, 0));
     }
     let size = pool_at(records as usize, journal as usize) as u64 + pool;
     if room < size {
-        return Outcome::Refused(refuse(NO_ROOM_FOR_IMAGE, size));
+        return Err(refuse(Reason::NoRoomForImage, size));
     }
-    Outcome::Accepted
+    Ok(())
 }
 
 // The tests 1, 7, 9.
@@ -40,45 +40,44 @@ fn check_blank(
     room: u64,
     residues: u64,
     digest: &[u8],
-    records: u64,
-    journal: u64,
-    pool: u64,
-) -> Outcome
-    ensures { result ≡ blank_answer room residues digest.now records journal pool }
+    capacities: Capacities,
+) -> Result<(), Refusal>
+    ensures { result ≡ blank_answer room residues digest.now capacities.records capacities.journal
+        capacities.pool }
 {
     if REFERENCE_LIMIT < residues {
-        return Outcome::Refused(refuse(OVER_LIMIT, 0));
+        return Err(refuse(Reason::OverLimit, 0));
     }
-    match check_digest_text(digest) {
-        Outcome::Accepted => check_capacities(room, records, journal, pool),
-        Outcome::Refused(why) => Outcome::Refused(why),
-    }
+    check_digest_text(digest)?;
+    check_capacities(room, capacities)
 }
 
-fn write_header(
-    image: &mut [u8],
-    residues: usize,
-    digest: &[u8],
-    records: usize,
-    journal: usize,
-    pool: usize,
-)
+// The header's fields in their order, with no number issued, no change journalled and no pool used.
+fn write_header(image: &mut [u8], residues: usize, digest: &[u8], capacities: Capacities)
     requires header_size_in_bounds { (header_size ≤ length image.old) × (length digest.now ≡ digest_length) }
-    requires records_le_count_limit { (records ≤ count_limit) × (journal ≤ count_limit) }
-    ensures { image.new ≡ blanked image.old residues digest.now records journal pool }
+    requires records_le_count_limit { (capacities.records ≤ count_limit) × (capacities.journal ≤ count_limit) }
+    ensures { image.new ≡ blanked image.old residues digest.now capacities.records capacities.journal
+        capacities.pool }
 {
-    put_four(image, EDITION_AT, FIRST_EDITION, records, 0, HEADER_SIZE);
-    put_four(
-        image,
-        JOURNAL_CAPACITY_AT,
+    let records = capacities.records as usize;
+    let journal = capacities.journal as usize;
+    let pool = capacities.pool as usize;
+    let journal_at = journal_at(records);
+    let pool_at = pool_at(records, journal);
+    let fields = [
+        FIRST_EDITION,
+        records,
+        0,
+        HEADER_SIZE,
         journal,
         0,
-        journal_at(records),
+        journal_at,
         pool,
-    );
-    put_number(image, POOL_USED_AT, 0);
-    put_number(image, POOL_OFFSET_AT, pool_at(records, journal));
-    put_number(image, REFERENCE_LENGTH_AT, residues);
+        0,
+        pool_at,
+        residues,
+    ];
+    put_numbers(image, EDITION_AT, &fields);
     copy_at(image, DIGEST_AT, digest);
 }
 
@@ -87,24 +86,12 @@ pub fn blank(
     image: &mut [u8],
     residues: u64,
     digest: &[u8],
-    records: u64,
-    journal: u64,
-    pool: u64,
-) -> Outcome
-    ensures { Blanks image.old residues digest.now records journal pool result image.new }
+    capacities: Capacities,
+) -> Result<(), Refusal>
+    ensures { Blanks image.old residues digest.now capacities.records capacities.journal capacities.pool
+        result image.new }
 {
-    match check_blank(image.len() as u64, residues, digest, records, journal, pool) {
-        Outcome::Accepted => {
-            write_header(
-                image,
-                residues as usize,
-                digest,
-                records as usize,
-                journal as usize,
-                pool as usize,
-            );
-            Outcome::Accepted
-        }
-        Outcome::Refused(why) => Outcome::Refused(why),
-    }
+    check_blank(image.len() as u64, residues, digest, capacities)?;
+    write_header(image, residues as usize, digest, capacities);
+    Ok(())
 }

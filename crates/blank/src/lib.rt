@@ -7,3 +7,11 @@
 mod header;
 
 pub use header::blank;
+
+// How much an image has room for: records, journal entries, and bytes of the pool.
+#[derive(Clone, Copy)]
+pub struct Capacities {
+    pub records: u64,
+    pub journal: u64,
+    pub pool: u64,
+}

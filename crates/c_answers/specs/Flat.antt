@@ -1,28 +1,18 @@
 -- The answers of the calls as C reads them, and what every export promises: what the call below it answers, flattened.
-use Rattle.std.specs.Prelude.{ℕ, ◌≡◌}
-use Rattle.refusal.specs.declared.Written.{Written}
-use Rattle.refusal.specs.declared.Written.TheVariants.{Bytes, Refused}
-use Rattle.refusal.specs.declared.Outcome.{Outcome}
-use Rattle.refusal.specs.declared.Outcome.TheVariants.{Accepted, Refused as Stopped}
+use Rattle.std.specs.Prelude.{ℕ, ◌≡◌, Result, Ok, Err}
+use Rattle.refusal.specs.declared.Refusal.{Refusal}
+use Rattle.refusal.specs.Numbers.{number_of}
 use Rattle.normal_form.specs.declared.Kind.{Kind}
 use Rattle.normal_form.specs.declared.Kind.TheVariants.{Unchanged, Substitution, Indel}
-use Rattle.normal_form_calls.specs.declared.Normalised.{Normalised}
-use Rattle.normal_form_calls.specs.declared.Normalised.TheVariants.{Accepted as Formed, Refused as Unformed}
+use Rattle.normal_form_calls.specs.declared.Formed.{Formed}
 use Rattle.moved.specs.Moved.{still}
 use Rattle.allele_identifier.specs.declared.Identified.{Identified}
-use Rattle.allele_identifier.specs.declared.Identified.TheVariants.{Bytes as Identifier, Refused as Unidentified}
-use Rattle.text_reader.specs.declared.LocationRead.{LocationRead}
-use Rattle.text_reader.specs.declared.LocationRead.TheVariants.{Accepted as Located, Refused as Unlocated}
-use Rattle.text_reader.specs.declared.AlleleRead.{AlleleRead}
-use Rattle.text_reader.specs.declared.AlleleRead.TheVariants.{Accepted as Alleled, Refused as Unalleled}
-use Rattle.vcf_line.specs.declared.Counted.{Counted}
-use Rattle.vcf_line.specs.declared.Counted.TheVariants.{Places, Refused as Uncounted}
+use Rattle.text_reader.specs.declared.LocationParts.{LocationParts}
+use Rattle.text_reader.specs.declared.AlleleParts.{AlleleParts}
 use Rattle.form_entry.specs.declared.Entered.{Entered}
-use Rattle.form_entry.specs.declared.Entered.TheVariants.{New, Again, Known, Refused as Unentered}
-use Rattle.record_reader.specs.declared.RecordRead.{RecordRead}
-use Rattle.record_reader.specs.declared.RecordRead.TheVariants.{Accepted as Read, Refused as Unread}
-use Rattle.register.specs.declared.Undone.{Undone}
-use Rattle.register.specs.declared.Undone.TheVariants.{Number, Refused as NotUndone}
+use Rattle.form_entry.specs.declared.Way.{Way}
+use Rattle.form_entry.specs.declared.Way.TheVariants.{New, Again, Known}
+use Rattle.record_reader.specs.declared.Record.{Record}
 use Rattle.c_answers.specs.declared.FvAllele.{FvAllele}
 use Rattle.c_answers.specs.declared.FvCounted.{FvCounted}
 use Rattle.c_answers.specs.declared.FvEntered.{FvEntered}
@@ -35,59 +25,65 @@ use Rattle.c_answers.specs.declared.FvUndone.{FvUndone}
 use Rattle.c_answers.specs.declared.FvWritten.{FvWritten}
 
 -- document 01's number and value of a refusal, 0 for an accepted answer; and what that answers, 0 for a refusal
-abbrev pub flat_written : Written → FvWritten
-flat_written (Bytes n) = record { refusal = 0; value = 0; length = n }
-flat_written (Refused r) = record { refusal = r.number; value = r.value; length = 0 }
+abbrev pub flat_written : Result ℕ Refusal → FvWritten
+flat_written (Ok n) = record { refusal = 0; value = 0; length = n }
+flat_written (Err r) = record { refusal = number_of r.reason; value = r.value; length = 0 }
 
-abbrev pub flat_identified : Identified → FvIdentified
-flat_identified (Identifier n m) = record { refusal = 0; value = 0; length = n; moved = m }
-flat_identified (Unidentified r) = record { refusal = r.number; value = r.value; length = 0; moved = still }
+abbrev pub flat_identified : Result Identified Refusal → FvIdentified
+flat_identified (Ok i) = record { refusal = 0; value = 0; length = i.length; moved = i.moved }
+flat_identified (Err r) = record { refusal = number_of r.reason; value = r.value; length = 0; moved = still }
 
 abbrev pub flat_kind : Kind → ℕ
 flat_kind Unchanged = 0
 flat_kind Substitution = 1
 flat_kind Indel = 2
 
-abbrev pub flat_form : Normalised → FvForm
-flat_form (Formed f m) =
+abbrev pub flat_form : Result Formed Refusal → FvForm
+flat_form (Ok f) =
     record {
       refusal = 0;
       value = 0;
-      kind = flat_kind f.kind;
-      start = f.start;
-      end = f.end;
-      length = f.length;
-      moved = m;
+      kind = flat_kind f.form.kind;
+      start = f.form.start;
+      end = f.form.end;
+      length = f.form.length;
+      moved = f.moved;
     }
-flat_form (Unformed r) =
-    record { refusal = r.number; value = r.value; kind = 0; start = 0; end = 0; length = 0; moved = still }
+flat_form (Err r) =
+    record { refusal = number_of r.reason; value = r.value; kind = 0; start = 0; end = 0; length = 0; moved = still }
 
-abbrev pub flat_location : LocationRead → FvLocation
-flat_location (Located p) = record { refusal = 0; value = 0; start = p.start; end = p.end; digest = p.digest }
-flat_location (Unlocated r) = record { refusal = r.number; value = r.value; start = 0; end = 0; digest = 0 }
+abbrev pub flat_location : Result LocationParts Refusal → FvLocation
+flat_location (Ok p) = record { refusal = 0; value = 0; start = p.start; end = p.end; digest = p.digest }
+flat_location (Err r) = record { refusal = number_of r.reason; value = r.value; start = 0; end = 0; digest = 0 }
 
-abbrev pub flat_allele : AlleleRead → FvAllele
-flat_allele (Alleled p) =
+abbrev pub flat_allele : Result AlleleParts Refusal → FvAllele
+flat_allele (Ok p) =
     record { refusal = 0; value = 0; location = p.location; sequence = p.sequence; length = p.length }
-flat_allele (Unalleled r) = record { refusal = r.number; value = r.value; location = 0; sequence = 0; length = 0 }
+flat_allele (Err r) =
+    record { refusal = number_of r.reason; value = r.value; location = 0; sequence = 0; length = 0 }
 
-abbrev pub flat_counted : Counted → FvCounted
-flat_counted (Places n) = record { refusal = 0; value = 0; count = n }
-flat_counted (Uncounted r) = record { refusal = r.number; value = r.value; count = 0 }
+abbrev pub flat_counted : Result ℕ Refusal → FvCounted
+flat_counted (Ok n) = record { refusal = 0; value = 0; count = n }
+flat_counted (Err r) = record { refusal = number_of r.reason; value = r.value; count = 0 }
 
-abbrev pub flat_outcome : Outcome → FvOutcome
-flat_outcome Accepted = record { refusal = 0; value = 0 }
-flat_outcome (Stopped r) = record { refusal = r.number; value = r.value }
+abbrev pub flat_outcome : Result (Unit {0}) Refusal → FvOutcome
+flat_outcome (Ok u) = record { refusal = 0; value = 0 }
+flat_outcome (Err r) = record { refusal = number_of r.reason; value = r.value }
 
 -- 1 new, 2 again, 3 known
-abbrev pub flat_entered : Entered → FvEntered
-flat_entered (New i m) = record { refusal = 0; value = 0; answer = 1; number = i; moved = m }
-flat_entered (Again i m) = record { refusal = 0; value = 0; answer = 2; number = i; moved = m }
-flat_entered (Known i m) = record { refusal = 0; value = 0; answer = 3; number = i; moved = m }
-flat_entered (Unentered r) = record { refusal = r.number; value = r.value; answer = 0; number = 0; moved = still }
+abbrev pub flat_way : Way → ℕ
+flat_way New = 1
+flat_way Again = 2
+flat_way Known = 3
 
-abbrev pub flat_record : RecordRead → FvRecord
-flat_record (Read p) =
+abbrev pub flat_entered : Result Entered Refusal → FvEntered
+flat_entered (Ok e) =
+    record { refusal = 0; value = 0; answer = flat_way e.found; number = e.number; moved = e.moved }
+flat_entered (Err r) =
+    record { refusal = number_of r.reason; value = r.value; answer = 0; number = 0; moved = still }
+
+abbrev pub flat_record : Result Record Refusal → FvRecord
+flat_record (Ok p) =
     record {
       refusal = 0;
       value = 0;
@@ -97,12 +93,12 @@ flat_record (Read p) =
       offset = p.offset;
       length = p.length;
     }
-flat_record (Unread r) =
-    record { refusal = r.number; value = r.value; start = 0; end = 0; status = 0; offset = 0; length = 0 }
+flat_record (Err r) =
+    record { refusal = number_of r.reason; value = r.value; start = 0; end = 0; status = 0; offset = 0; length = 0 }
 
-abbrev pub flat_undone : Undone → FvUndone
-flat_undone (Number i) = record { refusal = 0; value = 0; number = i }
-flat_undone (NotUndone r) = record { refusal = r.number; value = r.value; number = 0 }
+abbrev pub flat_undone : Result ℕ Refusal → FvUndone
+flat_undone (Ok i) = record { refusal = 0; value = 0; number = i }
+flat_undone (Err r) = record { refusal = number_of r.reason; value = r.value; number = 0 }
 
 -- an answer that keeps the promise of the call below, flattened
 pub record Flattened {A B : Type 0} (flatten : A → B) (Promise : A → Type 0) (answer : B) : Type 0 where

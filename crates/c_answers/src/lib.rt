@@ -7,14 +7,12 @@ mod numbered;
 mod read;
 mod written;
 
-pub use numbered::{flat_entered, flat_outcome, flat_undone};
-pub use read::{flat_allele, flat_counted, flat_location, flat_record};
-pub use written::{flat_form, flat_identified, flat_written};
+// Each begins with the refusal and its value, and has the zeros of its own fields: the C interface.
 
 // What a call that writes answers: document 01's number of the refusal and its value, and the count
 // of bytes written. Each is 0 where it doesn't apply.
 #[repr(C)]
-#[derive(Clone, Copy)]
+#[derive(Clone, Copy, Default)]
 pub struct FvWritten {
     pub refusal: u64,
     pub value: u64,
@@ -50,7 +48,7 @@ pub struct FvIdentified {
 // What a location text is read as: the refusal as above, the interval, and where the digest lies.
 // Each is 0 where it doesn't apply.
 #[repr(C)]
-#[derive(Clone, Copy)]
+#[derive(Clone, Copy, Default)]
 pub struct FvLocation {
     pub refusal: u64,
     pub value: u64,
@@ -62,7 +60,7 @@ pub struct FvLocation {
 // What an allele text is read as: the refusal as above, where the location's digest lies, and where
 // the sequence does, with its length. Each is 0 where it doesn't apply.
 #[repr(C)]
-#[derive(Clone, Copy)]
+#[derive(Clone, Copy, Default)]
 pub struct FvAllele {
     pub refusal: u64,
     pub value: u64,
@@ -74,7 +72,7 @@ pub struct FvAllele {
 // What the count of a line's alternates answers: the refusal as above, and how many places there are.
 // Each is 0 where it doesn't apply.
 #[repr(C)]
-#[derive(Clone, Copy)]
+#[derive(Clone, Copy, Default)]
 pub struct FvCounted {
     pub refusal: u64,
     pub value: u64,
@@ -83,7 +81,7 @@ pub struct FvCounted {
 
 // What a call answers that only accepts or refuses: the refusal as above.
 #[repr(C)]
-#[derive(Clone, Copy)]
+#[derive(Clone, Copy, Default)]
 pub struct FvOutcome {
     pub refusal: u64,
     pub value: u64,
@@ -104,7 +102,7 @@ pub struct FvEntered {
 // What the reading of a record answers: the refusal as above, the interval, the status (1 active, 0 inactive), and
 // where the replacement lies in the image. Each is 0 where it doesn't apply.
 #[repr(C)]
-#[derive(Clone, Copy)]
+#[derive(Clone, Copy, Default)]
 pub struct FvRecord {
     pub refusal: u64,
     pub value: u64,
@@ -117,7 +115,7 @@ pub struct FvRecord {
 
 // What an undo answers: the refusal as above, and the number. Each is 0 where it doesn't apply.
 #[repr(C)]
-#[derive(Clone, Copy)]
+#[derive(Clone, Copy, Default)]
 pub struct FvUndone {
     pub refusal: u64,
     pub value: u64,

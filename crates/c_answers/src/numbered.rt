@@ -1,70 +1,74 @@
 // The answers of the register's calls, flattened.
 ghost use Rattle.std.specs.Prelude.{◌≡◌};
-ghost use Rattle.c_answers.specs.Flat.{flat_outcome, flat_entered, flat_undone};
+ghost use Rattle.c_answers.specs.Flat.{flat_outcome, flat_way, flat_entered, flat_undone};
 
 use super::{FvEntered, FvOutcome, FvUndone};
-use form_entry::Entered;
-use moved::{Moved, still};
-use refusal::Outcome;
-use register::Undone;
+use form_entry::{Entered, Way};
+use moved::still;
+use refusal::Refusal;
 
-pub fn flat_outcome(a: Outcome) -> FvOutcome
-    ensures { result ≡ flat_outcome a }
-{
-    match a {
-        Outcome::Accepted => FvOutcome {
-            refusal: 0,
-            value: 0,
-        },
-        Outcome::Refused(refused) => FvOutcome {
-            refusal: refused.number,
-            value: refused.value,
-        },
+impl From<Result<(), Refusal>> for FvOutcome {
+    ghost from_gives = { λ answer flat. flat ≡ flat_outcome answer };
+
+    fn from(answer: Result<(), Refusal>) -> FvOutcome {
+        match answer {
+            Ok(()) => FvOutcome::default(),
+            Err(refused) => FvOutcome {
+                refusal: refused.reason.into(),
+                value: refused.value,
+            },
+        }
     }
 }
 
-fn entered_as(answer: u64, number: u64, moved: Moved) -> FvEntered
-    ensures { result ≡ record { refusal = 0; value = 0; answer = answer; number = number; moved = moved } }
+// C's number of how an allele was found. No `From`: neither type is of this crate.
+fn flat_way(way: Way) -> u64
+    ensures { result ≡ flat_way way }
 {
-    FvEntered {
-        refusal: 0,
-        value: 0,
-        answer,
-        number,
-        moved,
+    match way {
+        Way::New => 1,
+        Way::Again => 2,
+        Way::Known => 3,
     }
 }
 
-pub fn flat_entered(a: Entered) -> FvEntered
-    ensures { result ≡ flat_entered a }
-{
-    match a {
-        Entered::New(number, moved) => entered_as(1, number, moved),
-        Entered::Again(number, moved) => entered_as(2, number, moved),
-        Entered::Known(number, moved) => entered_as(3, number, moved),
-        Entered::Refused(why) => FvEntered {
-            refusal: why.number,
-            value: why.value,
-            answer: 0,
-            number: 0,
-            moved: still(),
-        },
+impl From<Result<Entered, Refusal>> for FvEntered {
+    ghost from_gives = { λ answer flat. flat ≡ flat_entered answer };
+
+    fn from(answer: Result<Entered, Refusal>) -> FvEntered {
+        match answer {
+            Ok(entered) => FvEntered {
+                refusal: 0,
+                value: 0,
+                answer: flat_way(entered.found),
+                number: entered.number,
+                moved: entered.moved,
+            },
+            Err(why) => FvEntered {
+                refusal: why.reason.into(),
+                value: why.value,
+                answer: 0,
+                number: 0,
+                moved: still(),
+            },
+        }
     }
 }
 
-pub fn flat_undone(a: Undone) -> FvUndone
-    ensures { result ≡ flat_undone a }
-{
-    match a {
-        Undone::Number(undone) => FvUndone {
-            refusal: 0,
-            value: 0,
-            number: undone,
-        },
-        Undone::Refused(why) => FvUndone {
-            refusal: why.number,
-            value: why.value,
-            number: 0,
-        },
+impl From<Result<u64, Refusal>> for FvUndone {
+    ghost from_gives = { λ answer flat. flat ≡ flat_undone answer };
+
+    fn from(answer: Result<u64, Refusal>) -> FvUndone {
+        match answer {
+            Ok(undone) => FvUndone {
+                number: undone,
+                ..FvUndone::default()
+            },
+            Err(why) => FvUndone {
+                refusal: why.reason.into(),
+                value: why.value,
+                ..FvUndone::default()
+            },
+        }
     }
 }

@@ -6,45 +6,49 @@ use super::{FvForm, FvIdentified, FvWritten};
 use allele_identifier::Identified;
 use moved::still;
 use normal_form::Kind;
-use normal_form_calls::Normalised;
-use refusal::Written;
+use normal_form_calls::Formed;
+use refusal::Refusal;
 
-pub fn flat_written(w: Written) -> FvWritten
-    ensures { result ≡ flat_written w }
-{
-    match w {
-        Written::Bytes(length) => FvWritten {
-            refusal: 0,
-            value: 0,
-            length,
-        },
-        Written::Refused(refused) => FvWritten {
-            refusal: refused.number,
-            value: refused.value,
-            length: 0,
-        },
+impl From<Result<u64, Refusal>> for FvWritten {
+    ghost from_gives = { λ answer flat. flat ≡ flat_written answer };
+
+    fn from(answer: Result<u64, Refusal>) -> FvWritten {
+        match answer {
+            Ok(length) => FvWritten {
+                length,
+                ..FvWritten::default()
+            },
+            Err(refused) => FvWritten {
+                refusal: refused.reason.into(),
+                value: refused.value,
+                ..FvWritten::default()
+            },
+        }
     }
 }
 
-pub fn flat_identified(a: Identified) -> FvIdentified
-    ensures { result ≡ flat_identified a }
-{
-    match a {
-        Identified::Bytes(length, moved) => FvIdentified {
-            refusal: 0,
-            value: 0,
-            length,
-            moved,
-        },
-        Identified::Refused(why) => FvIdentified {
-            refusal: why.number,
-            value: why.value,
-            length: 0,
-            moved: still(),
-        },
+impl From<Result<Identified, Refusal>> for FvIdentified {
+    ghost from_gives = { λ answer flat. flat ≡ flat_identified answer };
+
+    fn from(answer: Result<Identified, Refusal>) -> FvIdentified {
+        match answer {
+            Ok(identified) => FvIdentified {
+                refusal: 0,
+                value: 0,
+                length: identified.length,
+                moved: identified.moved,
+            },
+            Err(why) => FvIdentified {
+                refusal: why.reason.into(),
+                value: why.value,
+                length: 0,
+                moved: still(),
+            },
+        }
     }
 }
 
+// C's number of a kind. No `From`: neither type is of this crate.
 fn flat_kind(k: Kind) -> u64
     ensures { result ≡ flat_kind k }
 {
@@ -55,30 +59,29 @@ fn flat_kind(k: Kind) -> u64
     }
 }
 
-pub fn flat_form(a: Normalised) -> FvForm
-    ensures { result ≡ flat_form a }
-{
-    match a {
-        Normalised::Accepted(form, moved) => {
-            let kind = form.kind;
-            FvForm {
+impl From<Result<Formed, Refusal>> for FvForm {
+    ghost from_gives = { λ answer flat. flat ≡ flat_form answer };
+
+    fn from(answer: Result<Formed, Refusal>) -> FvForm {
+        match answer {
+            Ok(formed) => FvForm {
                 refusal: 0,
                 value: 0,
-                kind: flat_kind(kind),
-                start: form.start,
-                end: form.end,
-                length: form.length,
-                moved,
-            }
+                kind: flat_kind(formed.form.kind),
+                start: formed.form.start,
+                end: formed.form.end,
+                length: formed.form.length,
+                moved: formed.moved,
+            },
+            Err(why) => FvForm {
+                refusal: why.reason.into(),
+                value: why.value,
+                kind: 0,
+                start: 0,
+                end: 0,
+                length: 0,
+                moved: still(),
+            },
         }
-        Normalised::Refused(why) => FvForm {
-            refusal: why.number,
-            value: why.value,
-            kind: 0,
-            start: 0,
-            end: 0,
-            length: 0,
-            moved: still(),
-        },
     }
 }

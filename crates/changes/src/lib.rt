@@ -5,6 +5,8 @@
 // calls on an image refuse.
 #![tactic(auto)]
 
+mod room;
 mod write;
 
-pub use write::{change, mark, number_form, put_four};
+pub use room::check_journal;
+pub use write::{change, mark, number_form, put_numbers};

@@ -10,7 +10,7 @@ use lib.Seq.{length-take-le, take-suc, take_all, take-take, split_at, get_or-tak
 use borrow.Author.Tests.{ltb-true, ltb-false}
 use Rattle.stretch.proofs.Cases.{by_cases}
 use Rattle.decimals.specs.declared.Leading.{Leading}
-use Rattle.decimals.specs.declared.Number.TheVariants.{Is, Absent}
+use Rattle.std.specs.Prelude.{Some, None}
 use Rattle.decimals.specs.Decimal.{digit, decimal}
 use Rattle.decimals.specs.Number.{value_from, value, number_within}
 use Rattle.decimals.specs.Leads.{Leads}
@@ -123,19 +123,19 @@ module _ (most : ℕ) (s : List ℕ) where
         r.furthest (length s) h (omega arith) m [] g
         (append-nil (take (length s) s) ∙ take_all (length s) s (omega arith) ∙ e)
 
-    pub whole-more : k < length s → number_within least most s ≡ Absent
+    pub whole-more : k < length s → number_within least most s ≡ None
     whole-more h = number-none least most s (λ m _. not-longer h m)
 
-    pub whole-none : k ≡ 0 → number_within least most s ≡ Absent
+    pub whole-none : k ≡ 0 → number_within least most s ≡ None
     whole-none h = number-none least most s (λ m _ g e. not-longer (omega (arith, decimal-long m, ap length e)) m g e)
 
     whole : (k ≡ 0 → ⊥) → length s ≤ k → s ≡ decimal n
     whole f h = sym (take_all k s h) ∙ r.digits (omega arith)
 
-    pub whole-low : (k ≡ 0 → ⊥) → length s ≤ k → n < least → number_within least most s ≡ Absent
+    pub whole-low : (k ≡ 0 → ⊥) → length s ≤ k → n < least → number_within least most s ≡ None
     whole-low f h g = number-none least most s (λ m l _ e. omega (arith, decimal_injective m n (sym e ∙ whole f h)))
 
-    pub whole_is : (k ≡ 0 → ⊥) → length s ≤ k → least ≤ n → number_within least most s ≡ Is n
+    pub whole_is : (k ≡ 0 → ⊥) → length s ≤ k → least ≤ n → number_within least most s ≡ Some n
     whole_is f h g = number_is least most s n g r.small (whole f h)
 
 -- a text has one answer

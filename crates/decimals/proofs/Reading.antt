@@ -8,8 +8,7 @@ use borrow.Author.Tests.{le-leb, leb-true, leb-false}
 use Rattle.stretch.specs.Same.{same}
 use Rattle.stretch.proofs.Cases.{by_cases}
 use Rattle.stretch.proofs.Same.{same_refl, same-eq, same-apart}
-use Rattle.decimals.specs.declared.Number.{Number}
-use Rattle.decimals.specs.declared.Number.TheVariants.{Is, Absent}
+use Rattle.std.specs.Prelude.{Option, Some, None}
 use Rattle.decimals.specs.Decimal.{digit, decimal}
 use Rattle.decimals.specs.Number.{value_from, value, number_within, number_of, Reads, is, absent}
 use Rattle.decimals.proofs.Digits.{decimal-below, decimal-tenth, by-tenths}
@@ -53,13 +52,13 @@ pub record Within (least most v n : ℕ) : Type 0 where
 
 module _ (least most : ℕ) (s : List ℕ) where
   -- the number of a text that is a decimal
-  pub number_is : (n : ℕ) → least ≤ n → n ≤ most → s ≡ decimal n → number_within least most s ≡ Is n
+  pub number_is : (n : ℕ) → least ≤ n → n ≤ most → s ≡ decimal n → number_within least most s ≡ Some n
   unfolding number_within
   number_is n l h e = let v : value s ≡ n = ap value e ∙ value-decimal n in
       rw (v, le-leb least n l, le-leb n most h, e, same_refl)
 
   -- a text that is the decimal of no number within the limits
-  pub number-none : ((n : ℕ) → least ≤ n → n ≤ most → s ≡ decimal n → ⊥) → number_within least most s ≡ Absent
+  pub number-none : ((n : ℕ) → least ≤ n → n ≤ most → s ≡ decimal n → ⊥) → number_within least most s ≡ None
   unfolding number_within
   number-none f =
       by_cases (leb least (value s))
@@ -95,23 +94,23 @@ module _ (least most : ℕ) (s : List ℕ) where
       none f = rw (number-none f) (absent f)
 
   -- a text has one answer
-  reads-value : (a : Number) → Reads least most s a → (n : ℕ) → a ≡ Is n → Within least most (value s) n
+  reads-value : (a : Option ℕ) → Reads least most s a → (n : ℕ) → a ≡ Some n → Within least most (value s) n
   reads-value _ (is m l h e) n d =
       let v : m ≡ n = cc in
       record { is = ap value e ∙ value-decimal m ∙ v; low = rw v at l; high = rw v at h }
   reads-value _ (absent f) n d = let z : ◌≡◌ {A = ℕ} 0 1 = cc in absurd (omega arith)
 
   -- a number that is read is what the digits stand for, within the limits
-  pub number-value : (n : ℕ) → number_within least most s ≡ Is n → Within least most (value s) n
+  pub number-value : (n : ℕ) → number_within least most s ≡ Some n → Within least most (value s) n
   number-value n e = reads-value (number_within least most s) number_of-reads n e
 
-  pub reads-once : (a₁ a₂ : Number) → Reads least most s a₁ → Reads least most s a₂ → a₁ ≡ a₂
-  reads-once _ _ (is m _ _ p) (is n _ _ q) = ap Is (decimal_injective m n (sym p ∙ q))
+  pub reads-once : (a₁ a₂ : Option ℕ) → Reads least most s a₁ → Reads least most s a₂ → a₁ ≡ a₂
+  reads-once _ _ (is m _ _ p) (is n _ _ q) = ap Some (decimal_injective m n (sym p ∙ q))
   reads-once _ _ (is m l h p) (absent f) = absurd (f m l h p)
   reads-once _ _ (absent f) (is n l h q) = absurd (f n l h q)
   reads-once _ _ (absent f) (absent g) = refl
 
 -- a decimal that is written is read back
-pub read_back : (n : ℕ) → n < 2 ^ 64 → number_of (decimal n) ≡ Is n
+pub read_back : (n : ℕ) → n < 2 ^ 64 → number_of (decimal n) ≡ Some n
 unfolding number_of
 read_back n h = number_is 0 (2 ^ 64 - 1) (decimal n) n (omega arith) (omega arith) refl

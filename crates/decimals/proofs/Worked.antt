@@ -3,7 +3,7 @@ use mathlib.Core.Path.{◌≡◌, refl}
 use mathlib.Core.List.{[], ◌∷◌, map}
 use Rattle.stretch.specs.Ascii.{ascii}
 use Rattle.stretch.specs.Same.{same}
-use Rattle.decimals.specs.declared.Number.TheVariants.{Is, Absent}
+use Rattle.std.specs.Prelude.{Some, None}
 use Rattle.decimals.specs.Decimal.{decimal_in, enough, decimal}
 use Rattle.decimals.specs.Number.{value_from, value, number_within, number_of}
 
@@ -14,17 +14,17 @@ worked-decimal = refl
 
 pub worked-number_of : map number_of
     (ascii "0" ∷ ascii "7" ∷ ascii "10" ∷ ascii "18446744073709551615" ∷ ascii "18446744073709551616" ∷ [])
-    ≡ Is 0 ∷ Is 7 ∷ Is 10 ∷ Is 18446744073709551615 ∷ Absent ∷ []
+    ≡ Some 0 ∷ Some 7 ∷ Some 10 ∷ Some 18446744073709551615 ∷ None ∷ []
 unfolding number_of number_within value value_from same decimal enough decimal_in
 worked-number_of = refl
 
 pub worked-absent : map number_of (ascii "" ∷ ascii "00" ∷ ascii "01" ∷ ascii "+1" ∷ ascii "1a" ∷ ascii "1 " ∷ [])
-    ≡ Absent ∷ Absent ∷ Absent ∷ Absent ∷ Absent ∷ Absent ∷ []
+    ≡ None ∷ None ∷ None ∷ None ∷ None ∷ None ∷ []
 unfolding number_of number_within value value_from same decimal enough decimal_in
 worked-absent = refl
 
 -- a place in a reference of 11 residues, counted from 1
 pub within : map (number_within 1 11) (ascii "0" ∷ ascii "1" ∷ ascii "11" ∷ ascii "12" ∷ ascii "01" ∷ ascii "" ∷ [])
-    ≡ Absent ∷ Is 1 ∷ Is 11 ∷ Absent ∷ Absent ∷ Absent ∷ []
+    ≡ None ∷ Some 1 ∷ Some 11 ∷ None ∷ None ∷ None ∷ []
 unfolding number_within value value_from same decimal enough decimal_in
 within = refl

@@ -5,7 +5,7 @@ ghost use Rattle.decimals.specs.Decimal.{digit, decimal};
 ghost use Rattle.decimals.specs.Leads.{Leads};
 ghost use Rattle.decimals.specs.Number.{number_within, number_of};
 
-use super::{Leading, Number};
+use super::Leading;
 
 fn character(d: u64) -> u8
     requires { d < 10 }
@@ -50,45 +50,37 @@ pub fn put_decimal(out: &mut [u8], place: usize, n: u64) -> usize
 pub fn leading_digits(s: &[u8], most: u64) -> Leading
     ensures { Leads most s.now result.length result.number }
 {
-    let mut number: u64 = 0;
-    let mut length = 0;
-    while length < s.len() {
-        let c = s[length];
-        if c < b'0' || b'9' < c {
+    let mut number = 0;
+    for (length, &c) in s.iter().enumerate() {
+        if !c.is_ascii_digit() {
             return Leading { length, number };
         }
         if 0 < length && number == 0 {
             return Leading { length, number };
         }
-        let d = (c - b'0') as u64;
+        let d = u64::from(c - b'0');
         if most < d || (most - d) / 10 < number {
             return Leading { length, number };
         }
         number = number * 10 + d;
-        length += 1;
     }
+    let length = s.len();
     Leading { length, number }
 }
 
 // The number from `least` to `most` of which `s` is the decimal.
-pub fn read_decimal_within(s: &[u8], least: u64, most: u64) -> Number
+pub fn read_decimal_within(s: &[u8], least: u64, most: u64) -> Option<u64>
     ensures { result ≡ number_within least most s.now }
 {
     let digits = leading_digits(s, most);
-    if digits.length == 0 {
-        return Number::Absent;
+    if digits.length == 0 || digits.length < s.len() || digits.number < least {
+        return None;
     }
-    if digits.length < s.len() {
-        return Number::Absent;
-    }
-    if digits.number < least {
-        return Number::Absent;
-    }
-    Number::Is(digits.number)
+    Some(digits.number)
 }
 
 // The number below 2 to the 64th of which `s` is the decimal.
-pub fn read_decimal(s: &[u8]) -> Number
+pub fn read_decimal(s: &[u8]) -> Option<u64>
     ensures { result ≡ number_of s.now }
 {
     read_decimal_within(s, 0, u64::MAX)

@@ -10,13 +10,6 @@ pub use decimal::{
     decimal_length, leading_digits, put_decimal, read_decimal, read_decimal_within, write_decimal,
 };
 
-// What a text says as a decimal.
-#[derive(Clone, Copy)]
-pub enum Number {
-    Is(u64),
-    Absent,
-}
-
 // Digits that begin a text: how many, and their number.
 #[derive(Clone, Copy)]
 pub struct Leading {

@@ -8,6 +8,10 @@ use mathlib.Core.List.{List, [], ◌∷◌, ◌++◌}
 use lib.Dec.{ltb, eqb}
 use lib.ListN.{length, get_or, take, drop, length-append}
 use borrow.Author.Tests.{eqb-true}
+use lib.Seq.{get_or-drop}
+use Rattle.std.proofs.Common.{◌/◌, get_or-take, length-take}
+use Rattle.std.specs.Simd.{first_chunks}
+use Rattle.stretch.proofs.Words.{chunk-at}
 use Rattle.stretch.specs.Over.{over}
 use Rattle.stretch.proofs.Over.{over-next, over-tail-front}
 use Rattle.stretch.specs.Below.{below}
@@ -57,16 +61,36 @@ length-encoded (suc i) d h =
     ap length (encoded-more i d h) ∙ length-append (encoded (take (i * 3) d)) _
     ∙ ap (λ (n : ℕ). n + 4) (length-encoded i d (omega arith)) ∙ omega arith
 
+-- byte j of group i of the first n bytes
+abbrev pub byte_of : ℕ → List ℕ → ℕ → ℕ → ℕ
+byte_of n d i j = get_or (get_or (first_chunks 3 (length (take n d) / 3) (take n d)) i []) j 0
+
+byte_of-is : (n : ℕ) (d : List ℕ) (i j k : ℕ) → i < length (take n d) / 3 → j < 3 → k ≡ i * 3 + j
+    → byte_of n d i j ≡ get_or d k 0
+byte_of-is n d i j k h g e =
+    rw (
+      chunk-at 3 _ i (take n d) h,
+      get_or-take 3 (drop (i * 3) (take n d)) j 0 g,
+      get_or-drop (i * 3) (take n d) j 0,
+      get_or-take n d (i * 3 + j) 0 (omega (arith, length-take n d)),
+      e,
+    )
+
 -- one more group is written
-pub encode-turn : (l d : List ℕ) (i : ℕ) → (i + 1) * 3 ≤ length d
+pub encode-turn : (l d : List ℕ) (n i : ℕ) → i < length (take n d) / 3
     → over (over l 0 (encoded (take (i * 3) d))) (i * 4)
-    (group (get_or d (i * 3) 0) (get_or d (i * 3 + 1) 0) (get_or d (i * 3 + 2) 0))
+    (group (byte_of n d i 0) (byte_of n d i 1) (byte_of n d i 2))
     ≡ over l 0 (encoded (take ((i + 1) * 3) d))
-encode-turn l d i h =
-    let e : i * 3 + 2 ≡ suc (suc (i * 3)) = omega arith in
-    over-next l 0 (i * 4) (encoded (take (i * 3) d)) _ (omega arith)
+encode-turn l d n i h =
+    let whole : suc i * 3 ≤ length d = omega (arith, length-take n d) in
+    rw (
+      byte_of-is n d i 0 (i * 3) h (omega arith) (omega arith),
+      byte_of-is n d i 1 (suc (i * 3)) h (omega arith) (omega arith),
+      byte_of-is n d i 2 (suc (suc (i * 3))) h (omega arith) (omega arith),
+    )
+    (over-next l 0 (i * 4) (encoded (take (i * 3) d)) _ (omega arith)
     (sym (length-encoded i d (omega arith)) ∙ omega arith)
-    ∙ rw (add-one i, add-one (i * 3), e, encoded-more i d (omega arith))
+    ∙ rw (add-one i, encoded-more i d whole))
 
 pub length-digest_text : (d : List ℕ) → 24 ≤ length d → length (digest_text d) ≡ digest_length
 unfolding digest_text

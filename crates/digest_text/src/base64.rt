@@ -11,19 +11,13 @@ fn character_of(n: u8) -> u8
     requires { n < 64 }
     ensures { result ≡ character n }
 {
-    if n < 26 {
-        return b'A' + n;
+    match n {
+        0..=25 => b'A' + n,
+        26..=51 => b'a' + (n - 26),
+        52..=61 => b'0' + (n - 52),
+        62 => b'-',
+        _ => b'_',
     }
-    if n < 52 {
-        return b'a' + (n - 26);
-    }
-    if n < 62 {
-        return b'0' + (n - 52);
-    }
-    if n == 62 {
-        return b'-';
-    }
-    b'_'
 }
 
 // The four characters of three bytes.
@@ -46,11 +40,8 @@ pub fn write_digest_text(out: &mut [u8], digest: &[u8])
     requires in_bounds { 24 ≤ length digest.now }
     ensures { out.new ≡ over out.old 0 (digest_text digest.now) }
 {
-    let mut i = 0;
-    while i < 8 {
-        let from = i * 3;
-        let group = group_of(digest[from], digest[from + 1], digest[from + 2]);
-        copy_at(out, i * 4, &group);
-        i += 1;
+    let (groups, _) = digest[..24].as_chunks::<3>();
+    for (i, [a, b, c]) in groups.iter().enumerate() {
+        copy_at(out, i * 4, &group_of(*a, *b, *c));
     }
 }

@@ -1,5 +1,5 @@
 // Identifiers: a prefix and a digest text.
-ghost use Rattle.std.specs.Prelude.{◌≡◌, ◌++◌, ◌+◌, ◌≤◌, length};
+ghost use Rattle.std.specs.Prelude.{◌≡◌, ◌++◌, ◌+◌, ◌≤◌, length, Ok};
 ghost use Rattle.stretch.specs.Over.{over};
 ghost use Rattle.refusal.specs.Verdict.{accepted};
 ghost use Rattle.refusal.specs.Writes.{Writes};
@@ -8,10 +8,10 @@ ghost use Rattle.digest_text.specs.Digest.{digest_text};
 
 use super::base64::write_digest_text;
 use alphabets::DIGEST_LENGTH;
-use refusal::Written;
 use stretch::copy;
 
-// Lays a prefix and the digest's text over the front of `out`.
+// Lays a prefix and the digest's text over the front of `out`. The digest is a slice here and below, since any of
+// 24 bytes or more has a text: an array would ask for 64.
 pub fn write_identifier(out: &mut [u8], prefix: &[u8], digest: &[u8])
     requires digest_length_in_bounds { length prefix.now + digest_length ≤ length out.old }
     requires in_bounds { 24 ≤ length digest.now }
@@ -21,15 +21,15 @@ pub fn write_identifier(out: &mut [u8], prefix: &[u8], digest: &[u8])
     write_digest_text(&mut out[prefix.len()..], digest);
 }
 
-// Writes a prefix and the digest's text into `out`, which has room for them from `place` on.
-pub fn place_identifier(out: &mut [u8], place: u64, prefix: &[u8], digest: &[u8]) -> Written
+// Writes a prefix and the digest's text into `out`, which has room for them from `place` on, and answers how
+// many bytes.
+pub fn place_identifier(out: &mut [u8], place: u64, prefix: &[u8], digest: &[u8]) -> u64
     requires digest_length_in_bounds { place + (length prefix.now + digest_length) ≤ length out.old }
     requires in_bounds { 24 ≤ length digest.now }
-    ensures { Writes accepted (prefix.now ++ digest_text digest.now) out.old place result
-        out.new }
+    ensures { Writes accepted (prefix.now ++ digest_text digest.now) out.old place
+        (Ok result) out.new }
 {
     let from = place as usize;
     write_identifier(&mut out[from..], prefix, digest);
-    let length = (prefix.len() + DIGEST_LENGTH) as u64;
-    Written::Bytes(length)
+    (prefix.len() + DIGEST_LENGTH) as u64
 }

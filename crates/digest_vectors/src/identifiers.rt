@@ -1,60 +1,51 @@
 // Identifiers of whole references, in buffers with and without room for them.
-ghost use Rattle.std.specs.Prelude.{◌≤◌};
-
-use printer::{labelled, shown, text, written_text};
+use printer::{Shown, written_text};
 use std::io;
 
-fn line(rt: &impl Print, reference: &[u8], out: &mut [u8], place: u64) -> io::Result<()> {
-    let answer = sequence_identifier::sequence_identifier(reference, out, place);
-    text(rt, b"identifier ")?;
-    shown(rt, reference)?;
-    labelled(rt, b" place ", place)?;
-    labelled(rt, b" room ", out.len() as u64)?;
-    written_text(rt, out, place, answer)?;
-    text(rt, b"\n")
-}
+// A reference, and the place and the room of the identifier.
+#[derive(Clone, Copy)]
+struct Case(&'static [u8], u64, usize);
 
-fn in_room(rt: &impl Print, reference: &[u8], place: u64, room: usize) -> io::Result<()>
-    requires { room ≤ 64 }
-{
+const CASES: &[Case] = &[
+    Case(b"ACGT", 0, 41),
+    Case(b"", 0, 41),
+    Case(b"ACGT", 1, 42),
+    Case(b"ACGT", 1, 41),
+    Case(b"ACGT", 41, 41),
+    Case(b"ACGT", 42, 41),
+    Case(b"ACGT", u64::MAX, 41),
+    Case(b"ACGT", 0, 40),
+    Case(b"ACGT", 0, 0),
+    Case(b"aCGT", 0, 0),
+    Case(b"ACG@", 0, 41),
+    Case(b"ACG[", 0, 41),
+    Case(b"AZ", 0, 41),
+    Case(b"A`Z", 5, 0),
+    // A protein that ends in a stop; a stop alone, a gap alone, and both as ends; the bytes right beside them.
+    Case(b"MKTAYIAKQR*", 0, 41),
+    Case(b"*", 0, 41),
+    Case(b"-", 0, 41),
+    Case(b"*ACGT-", 0, 41),
+    Case(b")ACG", 0, 41),
+    Case(b"ACG+", 0, 41),
+    Case(b"A,C", 0, 41),
+    Case(b"ACG.", 0, 41),
+];
+
+fn line(rt: &impl Print, case: Case) -> io::Result<()> {
+    let Case(reference, place, room) = case;
     let mut space = [0u8; 64];
-    line(rt, reference, &mut space[0..room], place)
-}
-
-fn rooms(rt: &impl Print) -> io::Result<()> {
-    in_room(rt, b"ACGT", 0, 41)?;
-    in_room(rt, b"", 0, 41)?;
-    in_room(rt, b"ACGT", 1, 42)?;
-    in_room(rt, b"ACGT", 1, 41)?;
-    in_room(rt, b"ACGT", 41, 41)?;
-    in_room(rt, b"ACGT", 42, 41)?;
-    in_room(rt, b"ACGT", u64::MAX, 41)?;
-    in_room(rt, b"ACGT", 0, 40)?;
-    in_room(rt, b"ACGT", 0, 0)
-}
-
-fn residues(rt: &impl Print) -> io::Result<()> {
-    in_room(rt, b"aCGT", 0, 0)?;
-    in_room(rt, b"ACG@", 0, 41)?;
-    in_room(rt, b"ACG[", 0, 41)?;
-    in_room(rt, b"AZ", 0, 41)?;
-    in_room(rt, b"A`Z", 5, 0)
-}
-
-// A protein that ends in a stop; a stop alone, a gap alone, and both as ends; the bytes right beside them.
-fn stops_and_gaps(rt: &impl Print) -> io::Result<()> {
-    in_room(rt, b"MKTAYIAKQR*", 0, 41)?;
-    in_room(rt, b"*", 0, 41)?;
-    in_room(rt, b"-", 0, 41)?;
-    in_room(rt, b"*ACGT-", 0, 41)?;
-    in_room(rt, b")ACG", 0, 41)?;
-    in_room(rt, b"ACG+", 0, 41)?;
-    in_room(rt, b"A,C", 0, 41)?;
-    in_room(rt, b"ACG.", 0, 41)
+    let room = room.min(64);
+    let out = &mut space[..room];
+    let answer = sequence_identifier::sequence_identifier(reference, out, place);
+    let written = written_text(out, place, answer);
+    let reference = Shown(reference);
+    println!(rt; "identifier {reference} place {place} room {room} {written}")
 }
 
 pub fn lines(rt: &impl Print) -> io::Result<()> {
-    rooms(rt)?;
-    residues(rt)?;
-    stops_and_gaps(rt)
+    for case in CASES {
+        line(rt, *case)?;
+    }
+    Ok(())
 }

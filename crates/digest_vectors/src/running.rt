@@ -1,108 +1,107 @@
 // Running digests that have taken a total: one more part, and the finish.
-ghost use Rattle.std.specs.Prelude.{◌≤◌};
-
-use printer::{labelled, outcome, shown, text, written};
+use printer::{Answer, Shown, Written};
 use sha512::Running;
 use std::io;
 
+// A part, and the total before it.
+#[derive(Clone, Copy)]
+struct Part(&'static [u8], u64);
+
+const PARTS: &[Part] = &[
+    Part(b"", 1_000_000_000),
+    Part(b"A", 999_999_999),
+    Part(b"AC", 999_999_999),
+    Part(b"", 1_000_000_001),
+    Part(b"A", 1_000_000_001),
+    Part(b"A", u64::MAX),
+    Part(b"ACgT", 0),
+    Part(b"ACgT", 999_999_996),
+    Part(b"ACgT", 999_999_997),
+    Part(b"gA", 5),
+    Part(b"*-", 999_999_998),
+    Part(b"*-", 999_999_999),
+    Part(b"*-.", 5),
+];
+
+// A total, and the place and the room of the identifier.
+#[derive(Clone, Copy)]
+struct Finish(u64, u64, usize);
+
+const FINISHES: &[Finish] = &[
+    Finish(1_000_000_000, 0, 41),
+    Finish(1_000_000_001, 0, 0),
+    Finish(1_000_000_001, 0, 41),
+    Finish(0, 0, 40),
+    Finish(0, 1, 41),
+    Finish(0, 42, 41),
+    Finish(128, 3, 44),
+    Finish(u64::MAX, 0, 41),
+];
+
+// Three parts, one after another.
+const CUTS: &[[&[u8]; 3]] = &[
+    [b"AC", b"GT", b""],
+    [b"", b"ACGT", b""],
+    [b"ACGT", b"", b""],
+    [b"A", b"C", b"GT"],
+    [b"AC", b"xx", b"GT"],
+    // One sequence: cut between a stop and a gap, with a part refused there, and whole.
+    [b"AC*", b"-GT", b""],
+    [b"AC*", b"-+", b"-GT"],
+    [b"", b"AC*-GT", b""],
+];
+
 fn at_total(total: u64) -> Running {
+    Running {
+        total,
+        ..sequence_identifier::begin()
+    }
+}
+
+fn part_line(rt: &impl Print, taken: Part) -> io::Result<()> {
+    let Part(part, total) = taken;
+    let mut state = at_total(total);
+    let answer = Answer(sequence_identifier::feed(&mut state, part).map(|_| "taken"));
+    let part = Shown(part);
+    println!(rt; "part {part} total {total} {answer}")
+}
+
+fn finish_line(rt: &impl Print, finish: Finish) -> io::Result<()> {
+    let Finish(total, place, room) = finish;
+    let mut space = [0u8; 64];
+    let room = room.min(64);
+    let answer = sequence_identifier::finish(at_total(total), &mut space[..room], place);
+    let written = Answer(answer.map(Written));
+    println!(rt; "finish total {total} place {place} room {room} {written}")
+}
+
+// The state after three parts, each taken or refused.
+fn after(parts: [&[u8]; 3]) -> Running {
     let mut state = sequence_identifier::begin();
-    state.total = total;
+    for part in parts {
+        let _answer = sequence_identifier::feed(&mut state, part);
+    }
     state
 }
 
-fn part_line(rt: &impl Print, part: &[u8], total: u64) -> io::Result<()> {
-    let fed = sequence_identifier::feed(at_total(total), part);
-    let answer = fed.outcome;
-    text(rt, b"part ")?;
-    shown(rt, part)?;
-    labelled(rt, b" total ", total)?;
-    outcome(rt, answer)?;
-    text(rt, b"\n")
-}
-
-fn finish_line(rt: &impl Print, total: u64, place: u64, room: usize) -> io::Result<()>
-    requires { room ≤ 64 }
-{
-    let mut space = [0u8; 64];
-    let answer = sequence_identifier::finish(at_total(total), &mut space[0..room], place);
-    labelled(rt, b"finish total ", total)?;
-    labelled(rt, b" place ", place)?;
-    labelled(rt, b" room ", room as u64)?;
-    written(rt, answer)?;
-    text(rt, b"\n")
-}
-
-fn part_lines(rt: &impl Print) -> io::Result<()> {
-    part_line(rt, b"", 1_000_000_000)?;
-    part_line(rt, b"A", 999_999_999)?;
-    part_line(rt, b"AC", 999_999_999)?;
-    part_line(rt, b"", 1_000_000_001)?;
-    part_line(rt, b"A", 1_000_000_001)?;
-    part_line(rt, b"A", u64::MAX)?;
-    part_line(rt, b"ACgT", 0)?;
-    part_line(rt, b"ACgT", 999_999_996)?;
-    part_line(rt, b"ACgT", 999_999_997)?;
-    part_line(rt, b"gA", 5)?;
-    part_line(rt, b"*-", 999_999_998)?;
-    part_line(rt, b"*-", 999_999_999)?;
-    part_line(rt, b"*-.", 5)
-}
-
-fn finish_lines(rt: &impl Print) -> io::Result<()> {
-    finish_line(rt, 1_000_000_000, 0, 41)?;
-    finish_line(rt, 1_000_000_001, 0, 0)?;
-    finish_line(rt, 1_000_000_001, 0, 41)?;
-    finish_line(rt, 0, 0, 40)?;
-    finish_line(rt, 0, 1, 41)?;
-    finish_line(rt, 0, 42, 41)?;
-    finish_line(rt, 128, 3, 44)?;
-    finish_line(rt, u64::MAX, 0, 41)
-}
-
-// The state after a part, taken or refused.
-fn after(state: Running, part: &[u8]) -> Running {
-    let fed = sequence_identifier::feed(state, part);
-    fed.state
-}
-
-fn three_parts_line(rt: &impl Print, first: &[u8], second: &[u8], third: &[u8]) -> io::Result<()> {
-    let state = after(
-        after(after(sequence_identifier::begin(), first), second),
-        third,
-    );
+fn parts_line(rt: &impl Print, parts: [&[u8]; 3]) -> io::Result<()> {
     let mut space = [0u8; 41];
-    let answer = sequence_identifier::finish(state, &mut space, 0);
-    text(rt, b"parts ")?;
-    shown(rt, first)?;
-    text(rt, b" ")?;
-    shown(rt, second)?;
-    text(rt, b" ")?;
-    shown(rt, third)?;
-    written(rt, answer)?;
-    text(rt, b" ")?;
-    text(rt, &space)?;
-    text(rt, b"\n")
-}
-
-fn three_parts_lines(rt: &impl Print) -> io::Result<()> {
-    three_parts_line(rt, b"AC", b"GT", b"")?;
-    three_parts_line(rt, b"", b"ACGT", b"")?;
-    three_parts_line(rt, b"ACGT", b"", b"")?;
-    three_parts_line(rt, b"A", b"C", b"GT")?;
-    three_parts_line(rt, b"AC", b"xx", b"GT")
-}
-
-// One sequence: cut between a stop and a gap, with a part refused there, and whole.
-fn cut_at_a_stop(rt: &impl Print) -> io::Result<()> {
-    three_parts_line(rt, b"AC*", b"-GT", b"")?;
-    three_parts_line(rt, b"AC*", b"-+", b"-GT")?;
-    three_parts_line(rt, b"", b"AC*-GT", b"")
+    let answer = sequence_identifier::finish(after(parts), &mut space, 0);
+    let written = Answer(answer.map(Written));
+    let identifier = Shown(&space);
+    let [first, second, third] = parts.map(Shown);
+    println!(rt; "parts {first} {second} {third} {written} {identifier}")
 }
 
 pub fn lines(rt: &impl Print) -> io::Result<()> {
-    part_lines(rt)?;
-    finish_lines(rt)?;
-    three_parts_lines(rt)?;
-    cut_at_a_stop(rt)
+    for part in PARTS {
+        part_line(rt, *part)?;
+    }
+    for finish in FINISHES {
+        finish_line(rt, *finish)?;
+    }
+    for parts in CUTS {
+        parts_line(rt, *parts)?;
+    }
+    Ok(())
 }

@@ -6,74 +6,63 @@ ghost use Rattle.image.specs.Formed.{well_formed};
 ghost use Rattle.image.specs.Header.{Header};
 ghost use Rattle.form_entry.specs.Calls.{EntersForm};
 ghost use Rattle.entry.specs.Calls.{Enters};
-ghost use Rattle.entry.specs.Inner.{unchanged, image_answer, change_answer, EntersAllele};
+ghost use Rattle.entry.specs.Inner.{image_answer, change_answer, EntersAllele};
 
 use form_entry::{Entered, enter_form};
-use image::{DIGEST_AT, HEADER_SIZE, REFERENCE_LENGTH_AT, read_number, well_formed};
+use image::{DIGEST_AT, HEADER_SIZE, REFERENCE_LENGTH_AT, read_number};
 use moved::moved_of;
-use normal_form::{Kind, Stretches, reference_after, reference_before, replacement_kept};
-use normal_form_calls::{Located, form_of, locate_clean};
-use refusal::{IMAGE_NOT_WELL_FORMED, OTHER_REFERENCE, Outcome, UNCHANGED_ALLELE, refuse};
+use normal_form::{Kind, Stretches, joined_three};
+use normal_form_calls::{form_of, locate_clean};
+use record_reader::check;
+use refusal::{Reason, Refusal, refuse};
 use stretch::equal;
 
 // The tests 10, 11.
-fn check_image(image: &[u8], digest: &[u8], reference: &[u8]) -> Outcome
+#[tactic(auto, unfolding(crate::specs::Calls::image_grounds))]
+fn check_image(image: &[u8], digest: &[u8], reference: &[u8]) -> Result<(), Refusal>
     ensures { result ≡ image_answer image.now digest.now reference.now }
 {
-    if !well_formed(image) {
-        return Outcome::Refused(refuse(IMAGE_NOT_WELL_FORMED, 0));
-    }
+    check(image)?;
     if !equal(digest, &image[DIGEST_AT..HEADER_SIZE]) {
-        return Outcome::Refused(refuse(OTHER_REFERENCE, 0));
+        return Err(refuse(Reason::OtherReference, 0));
     }
     if reference.len() != read_number(image, REFERENCE_LENGTH_AT) {
-        return Outcome::Refused(refuse(OTHER_REFERENCE, 1));
+        return Err(refuse(Reason::OtherReference, 1));
     }
-    Outcome::Accepted
-}
-
-fn is_unchanged(kind: Kind) -> bool
-    ensures { result ≡ unchanged kind }
-{
-    match kind {
-        Kind::Unchanged => true,
-        Kind::Substitution => false,
-        Kind::Indel => false,
-    }
+    Ok(())
 }
 
 // The tests 1, 2, 3, 4, 5, 12.
-fn check_change(reference: &[u8], start: u64, end: u64, replacement: &[u8]) -> Located
+fn check_change(
+    reference: &[u8],
+    start: u64,
+    end: u64,
+    replacement: &[u8],
+) -> Result<Stretches, Refusal>
     ensures { result ≡ change_answer reference.now start end replacement.now }
 {
-    match locate_clean(reference, start, end, replacement) {
-        Located::Accepted(w) => {
-            let kind = w.kind;
-            if is_unchanged(kind) {
-                return Located::Refused(refuse(UNCHANGED_ALLELE, 0));
-            }
-            Located::Accepted(w)
-        }
-        Located::Refused(why) => Located::Refused(why),
+    let w = locate_clean(reference, start, end, replacement)?;
+    if matches!(w.kind, Kind::Unchanged) {
+        return Err(refuse(Reason::UnchangedAllele, 0));
     }
+    Ok(w)
 }
 
 // Enters the form that the stretches hold.
-fn enter_stretches(image: &mut [u8], reference: &[u8], replacement: &[u8], w: Stretches) -> Entered
+fn enter_stretches(
+    image: &mut [u8],
+    reference: &[u8],
+    replacement: &[u8],
+    w: Stretches,
+) -> Result<Entered, Refusal>
     requires header { Header image.old }
     requires image_value { well_formed image.old ≡ true }
     requires fits { Fits reference.now replacement.now w }
     ensures { EntersForm image.old (form_in reference.now replacement.now w) (moved_in w) result
         image.new }
 {
-    enter_form(
-        image,
-        form_of(w),
-        moved_of(w),
-        reference_before(reference, w),
-        replacement_kept(replacement, w),
-        reference_after(reference, w),
-    )
+    let text = joined_three(reference, replacement, w);
+    enter_form(image, form_of(w), moved_of(w), text)
 }
 
 // The tests 1, 2, 3, 4, 5, 12, and the entry of the normal form.
@@ -83,16 +72,14 @@ fn enter_allele(
     start: u64,
     end: u64,
     replacement: &[u8],
-) -> Entered
+) -> Result<Entered, Refusal>
     requires header { Header image.old }
     requires image_value { well_formed image.old ≡ true }
     ensures { EntersAllele image.old reference.now start end replacement.now result
         image.new }
 {
-    match check_change(reference, start, end, replacement) {
-        Located::Accepted(w) => enter_stretches(image, reference, replacement, w),
-        Located::Refused(why) => Entered::Refused(why),
-    }
+    let w = check_change(reference, start, end, replacement)?;
+    enter_stretches(image, reference, replacement, w)
 }
 
 // Enters the allele, where the image is of this digest and reference.
@@ -103,12 +90,10 @@ pub fn entry(
     start: u64,
     end: u64,
     replacement: &[u8],
-) -> Entered
+) -> Result<Entered, Refusal>
     ensures { Enters image.old digest.now reference.now start end
         replacement.now result image.new }
 {
-    match check_image(image, digest, reference) {
-        Outcome::Accepted => enter_allele(image, reference, start, end, replacement),
-        Outcome::Refused(why) => Entered::Refused(why),
-    }
+    check_image(image, digest, reference)?;
+    enter_allele(image, reference, start, end, replacement)
 }

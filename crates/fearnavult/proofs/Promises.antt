@@ -66,7 +66,7 @@ module _ (out : List ℕ) (place : ℕ) (a₁ a₂ : FvWritten) (l₁ l₂ : Lis
       → Flattened flat_written (λ w. Writes v text out place w l₂) a₂ → (a₁ ≡ a₂) × (l₁ ≡ l₂)
   flat-writes-once v text =
       flat-left-once flat_written (λ l w. Writes v text out place w l) a₁ a₂ l₁ l₂
-      (λ x y. keeps-once _ _ _ _ _ x y l₁ l₂)
+      (λ x y. keeps-once _ _ _ _ x y l₁ l₂)
 
   pub flat-identifies-once : (reference : List ℕ)
       → Flattened flat_written (λ w. Identifies reference out place w l₁) a₁

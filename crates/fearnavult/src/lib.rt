@@ -21,10 +21,10 @@ ghost use Rattle.register.specs.Calls.{Withdraws, Undoes, Seals};
 ghost use Rattle.c_answers.specs.Flat.{flat_written, flat_form, flat_location, flat_allele, flat_outcome, flat_entered};
 ghost use Rattle.c_answers.specs.Flat.{flat_identified, flat_counted, flat_record, flat_undone, Flattened};
 
+use blank::Capacities;
 use c_answers::{
     FvAllele, FvCounted, FvEntered, FvForm, FvIdentified, FvLocation, FvOutcome, FvRecord,
-    FvUndone, FvWritten, flat_allele, flat_counted, flat_entered, flat_form, flat_identified,
-    flat_location, flat_outcome, flat_record, flat_undone, flat_written,
+    FvUndone, FvWritten,
 };
 use sha512::Running;
 
@@ -34,7 +34,7 @@ pub extern "C" fn fv_sequence_identifier(reference: &[u8], out: &mut [u8], place
     ensures { Flattened flat_written
         (λ w. Identifies reference.now out.old place w out.new) result }
 {
-    flat_written(sequence_identifier::sequence_identifier(reference, out, place))
+    sequence_identifier::sequence_identifier(reference, out, place).into()
 }
 
 // As `running_digest::begin`.
@@ -50,7 +50,7 @@ pub extern "C" fn fv_running_begin() -> Running
 pub extern "C" fn fv_running_feed(state: &mut Running, part: &[u8]) -> FvOutcome
     ensures { Flattened flat_outcome (λ a. Feeds state.old part.now a state.new) result }
 {
-    flat_outcome(running_digest::feed(state, part))
+    running_digest::feed(state, part).into()
 }
 
 // As `running_digest::finish`.
@@ -58,7 +58,7 @@ pub extern "C" fn fv_running_feed(state: &mut Running, part: &[u8]) -> FvOutcome
 pub extern "C" fn fv_running_finish(state: &Running, out: &mut [u8], place: u64) -> FvWritten
     ensures { Flattened flat_written (λ w. Finishes state.now out.old place w out.new) result }
 {
-    flat_written(running_digest::finish(state, out, place))
+    running_digest::finish(state, out, place).into()
 }
 
 // As `normal_form_calls::normal_form`.
@@ -74,7 +74,7 @@ pub extern "C" fn fv_normal_form(
     ensures { Flattened flat_form (λ a. Normalises reference.now start end replacement.now
         out.old place a out.new) result }
 {
-    flat_form(normal_form_calls::normal_form(reference, start, end, replacement, out, place))
+    normal_form_calls::normal_form(reference, start, end, replacement, out, place).into()
 }
 
 // As `vcf_line::vcf_count`.
@@ -82,7 +82,7 @@ pub extern "C" fn fv_normal_form(
 pub extern "C" fn fv_vcf_count(reference: &[u8], line: &[u8]) -> FvCounted
     ensures { Flattened flat_counted (λ a. a ≡ counted reference.now line.now) result }
 {
-    flat_counted(vcf_line::vcf_count(reference, line))
+    vcf_line::vcf_count(reference, line).into()
 }
 
 // As `vcf_form::vcf_form`.
@@ -97,7 +97,7 @@ pub extern "C" fn fv_vcf_form(
     ensures { Flattened flat_form (λ a. VcfForms reference.now line.now alternate out.old
         place a out.new) result }
 {
-    flat_form(vcf_form::vcf_form(reference, line, alternate, out, place))
+    vcf_form::vcf_form(reference, line, alternate, out, place).into()
 }
 
 // As `location_identifier::location_text`.
@@ -114,7 +114,7 @@ pub extern "C" fn fv_location_text(
         (λ w. WritesLocation residues start end digest.now out.old place w out.new)
         result }
 {
-    flat_written(location_identifier::location_text(residues, start, end, digest, out, place))
+    location_identifier::location_text(residues, start, end, digest, out, place).into()
 }
 
 // As `location_identifier::location_identifier`.
@@ -131,7 +131,7 @@ pub extern "C" fn fv_location_identifier(
         (λ w. IdentifiesLocation residues start end digest.now out.old place w
         out.new) result }
 {
-    flat_written(location_identifier::location_identifier(residues, start, end, digest, out, place))
+    location_identifier::location_identifier(residues, start, end, digest, out, place).into()
 }
 
 // As `allele_identifier::allele_text`.
@@ -149,15 +149,7 @@ pub extern "C" fn fv_allele_text(
         (λ w. WritesAllele reference.now start end replacement.now digest.now
         out.old place w out.new) result }
 {
-    flat_written(allele_identifier::allele_text(
-        reference,
-        start,
-        end,
-        replacement,
-        digest,
-        out,
-        place,
-    ))
+    allele_identifier::allele_text(reference, start, end, replacement, digest, out, place).into()
 }
 
 // As `allele_identifier::allele_identifier`.
@@ -175,7 +167,7 @@ pub extern "C" fn fv_allele_identifier(
         (λ w. IdentifiesAllele reference.now start end replacement.now digest.now
         out.old place w out.new) result }
 {
-    flat_identified(allele_identifier::allele_identifier(
+    allele_identifier::allele_identifier(
         reference,
         start,
         end,
@@ -183,7 +175,7 @@ pub extern "C" fn fv_allele_identifier(
         digest,
         out,
         place,
-    ))
+    ).into()
 }
 
 // As `text_reader::read_location`.
@@ -191,7 +183,7 @@ pub extern "C" fn fv_allele_identifier(
 pub extern "C" fn fv_read_location(text: &[u8]) -> FvLocation
     ensures { Flattened flat_location (ReadsLocation text.now) result }
 {
-    flat_location(text_reader::read_location(text))
+    text_reader::read_location(text).into()
 }
 
 // As `text_reader::read_allele`.
@@ -199,7 +191,7 @@ pub extern "C" fn fv_read_location(text: &[u8]) -> FvLocation
 pub extern "C" fn fv_read_allele(text: &[u8]) -> FvAllele
     ensures { Flattened flat_allele (ReadsAllele text.now) result }
 {
-    flat_allele(text_reader::read_allele(text))
+    text_reader::read_allele(text).into()
 }
 
 // As `blank::blank`.
@@ -216,7 +208,12 @@ pub extern "C" fn fv_blank(
         (λ a. Blanks image.old residues digest.now records journal pool a
         image.new) result }
 {
-    flat_outcome(blank::blank(image, residues, digest, records, journal, pool))
+    let capacities = Capacities {
+        records,
+        journal,
+        pool,
+    };
+    blank::blank(image, residues, digest, capacities).into()
 }
 
 // As `entry::entry`.
@@ -233,7 +230,7 @@ pub extern "C" fn fv_entry(
         (λ a. Enters image.old digest.now reference.now start end
         replacement.now a image.new) result }
 {
-    flat_entered(entry::entry(image, digest, reference, start, end, replacement))
+    entry::entry(image, digest, reference, start, end, replacement).into()
 }
 
 // As `register::withdraw`.
@@ -241,7 +238,7 @@ pub extern "C" fn fv_entry(
 pub extern "C" fn fv_withdraw(image: &mut [u8], number: u64) -> FvOutcome
     ensures { Flattened flat_outcome (λ a. Withdraws image.old number a image.new) result }
 {
-    flat_outcome(register::withdraw(image, number))
+    register::withdraw(image, number).into()
 }
 
 // As `register::undo`.
@@ -249,7 +246,7 @@ pub extern "C" fn fv_withdraw(image: &mut [u8], number: u64) -> FvOutcome
 pub extern "C" fn fv_undo(image: &mut [u8]) -> FvUndone
     ensures { Flattened flat_undone (λ a. Undoes image.old a image.new) result }
 {
-    flat_undone(register::undo(image))
+    register::undo(image).into()
 }
 
 // As `register::seal`.
@@ -257,7 +254,7 @@ pub extern "C" fn fv_undo(image: &mut [u8]) -> FvUndone
 pub extern "C" fn fv_seal(image: &mut [u8]) -> FvOutcome
     ensures { Flattened flat_outcome (λ a. Seals image.old a image.new) result }
 {
-    flat_outcome(register::seal(image))
+    register::seal(image).into()
 }
 
 // As `record_reader::check`.
@@ -265,7 +262,7 @@ pub extern "C" fn fv_seal(image: &mut [u8]) -> FvOutcome
 pub extern "C" fn fv_check(image: &[u8]) -> FvOutcome
     ensures { Flattened flat_outcome (λ a. a ≡ checked image.now) result }
 {
-    flat_outcome(record_reader::check(image))
+    record_reader::check(image).into()
 }
 
 // As `record_reader::read_record`.
@@ -273,5 +270,5 @@ pub extern "C" fn fv_check(image: &[u8]) -> FvOutcome
 pub extern "C" fn fv_read_record(image: &[u8], number: u64) -> FvRecord
     ensures { Flattened flat_record (λ a. a ≡ record_read image.now number) result }
 {
-    flat_record(record_reader::read_record(image, number))
+    record_reader::read_record(image, number).into()
 }

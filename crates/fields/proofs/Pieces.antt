@@ -1,19 +1,18 @@
 -- The piece of a number: where it lies, what comes after it, how many there are, and the turns of the loops.
 use Prim.Native.Nat.{ℕ, zero, suc, ◌+◌, ◌-◌, ◌<◌, ◌≤◌}
 use native.Mathlib.Nat.{not-suc-le-zero}
-use native.Mathlib.Numerals.{add-one}
 use native.Mathlib.Omega.{arith}
 use mathlib.Core.Path.{◌≡◌, refl, sym}
 use mathlib.Core.List.{List, [], ◌∷◌, ◌++◌}
 use lib.Dec.{eqb, ltb}
-use lib.ListN.{length, get_or, drop, drop_of_length-le}
-use lib.Seq.{drop-cons}
-use borrow.Author.Tests.{eq-eqb, ne_eqb, lt-ltb, le-ltb, ltb-true, ltb-false}
+use lib.ListN.{length, get_or, drop}
+use borrow.Author.Tests.{eq-eqb, lt-ltb, le-ltb, ltb-true, ltb-false}
 use Rattle.stretch.specs.Part.{part}
 use Rattle.stretch.proofs.Cases.{by_cases}
 use Rattle.stretch.proofs.Tail.{lent-tail}
 use Rattle.fields.specs.declared.Extent.{Extent}
-use Rattle.fields.specs.declared.Piece.TheVariants.{At, Absent}
+use Rattle.std.specs.Prelude.{Some, None, count_by, ◌==◌, cond}
+use Rattle.std.proofs.lemmas.List.Sums.{sum_by-cons}
 use Rattle.fields.specs.Cut.{on_first, parted, next_of, piece_of, piece_after}
 use Rattle.fields.proofs.Cutting.{next_le, parted-next, parted-last}
 
@@ -45,24 +44,26 @@ module _ (mark : ℕ) where
       (λ e. rw (e, parted-append a b))
       (λ e. rw (e, parted-append a b) (on_first-append c (parted mark a) (parted mark b) (parted-some a)))
 
+  -- a byte that is a mark counts
+  count_by-cons : (c : ℕ) (s : List ℕ)
+      → count_by (λ b. b == mark) (c ∷ s) ≡ cond (eqb c mark) 1 0 + count_by (λ b. b == mark) s
+  count_by-cons = sum_by-cons (λ b. cond (b == mark) 1 0)
+
+  -- the pieces are one more than the marks
+  pub length-parted : (s : List ℕ) → length (parted mark s) ≡ count_by (λ b. b == mark) s + 1
+  unfolding parted
+  length-parted [] = refl
+  length-parted (c ∷ s) =
+      by_cases (eqb c mark)
+      (λ e. rw e (omega (arith, length-parted s, rw e at (count_by-cons c s))))
+      (λ e. rw e (omega (
+        arith,
+        length-on_first c (parted mark s) (parted-some s),
+        length-parted s,
+        rw e at (count_by-cons c s),
+      )))
+
   module _ (s : List ℕ) where
-    -- a loop that has counted the marks before i: the next byte is a mark, or it is none, or there is none
-    pub count-mark : (i : ℕ) → i < length s → get_or s i 0 ≡ mark
-        → length (parted mark (drop i s)) ≡ 1 + length (parted mark (drop (i + 1) s))
-    unfolding parted
-    count-mark i h e = rw (drop-cons s i 0 h, eq-eqb _ _ e, add-one) (omega arith)
-
-    pub count-other : (i : ℕ) → i < length s → (get_or s i 0 ≡ mark → ⊥)
-        → length (parted mark (drop i s)) ≡ length (parted mark (drop (i + 1) s))
-    unfolding parted
-    count-other i h n =
-        rw (drop-cons s i 0 h, ne_eqb _ _ n, add-one)
-        (length-on_first (get_or s i 0) (parted mark (drop (suc i) s)) (parted-some (drop (suc i) s)))
-
-    pub count-end : (i : ℕ) → length s ≤ i → length (parted mark (drop i s)) ≡ 1
-    unfolding parted
-    count-end i h = rw (drop_of_length-le s {i = i} h)
-
     -- a loop that has come to a place, with so many pieces left to pass: it passes one, there is none, it has come
     pub piece-on : (at left end : ℕ) → end ≡ next_of mark s at → 0 < left → end < length s
         → piece_of mark s at left ≡ piece_of mark s (end + 1) (left - 1)
@@ -74,13 +75,13 @@ module _ (mark : ℕ) where
         rw (e, f, lt-ltb _ _ g)
 
     pub piece-none : (at left end : ℕ) → end ≡ next_of mark s at → 0 < left → length s ≤ end
-        → piece_of mark s at left ≡ Absent
+        → piece_of mark s at left ≡ None
     unfolding piece_of
     piece-none at zero end f h l = absurd (not-suc-le-zero h)
     piece-none at (suc k) end f h l = let g : length s ≤ next_of mark s at = omega arith in rw (le-ltb _ _ g)
 
     pub piece-here : (at left end : ℕ) → end ≡ next_of mark s at → left ≡ 0
-        → piece_of mark s at left ≡ At (record { from = at; to = end })
+        → piece_of mark s at left ≡ Some (record { from = at; to = end })
     unfolding piece_of
     piece-here at left end f e = rw (e, f)
 
@@ -102,7 +103,7 @@ module _ (mark : ℕ) (s : List ℕ) where
       let e : next_of mark s from ≡ length s = omega (arith, ltb-false, next_le mark s from h) in
       rw (parted-last mark s from h e, e) (sym (lent-tail s from)))
 
-  pub piece-lies : (from k : ℕ) {e : Extent} → from ≤ length s → piece_of mark s from k ≡ At e → Lies mark s from k e
+  pub piece-lies : (from k : ℕ) {e : Extent} → from ≤ length s → piece_of mark s from k ≡ Some e → Lies mark s from k e
   unfolding piece_of
   piece-lies from zero {e} h p =
       let q : record { from = from; to = next_of mark s from } ≡ e = cc in
@@ -124,9 +125,9 @@ module _ (mark : ℕ) (s : List ℕ) where
         exists = rw c (omega (arith, o.exists));
         piece = rw c o.piece;
       })
-      (λ t. let w : Absent ≡ At e = rw t at p in let z : ◌≡◌ {A = ℕ} 0 1 = cc in absurd (omega arith))
+      (λ t. let w : None ≡ Some e = rw t at p in let z : ◌≡◌ {A = ℕ} 0 1 = cc in absurd (omega arith))
 
-  pub piece-absent : (from k : ℕ) → from ≤ length s → piece_of mark s from k ≡ Absent
+  pub piece-absent : (from k : ℕ) → from ≤ length s → piece_of mark s from k ≡ None
       → length (parted mark (drop from s)) ≤ k
   unfolding piece_of
   piece-absent from zero h p = let z : ◌≡◌ {A = ℕ} 0 1 = cc in absurd (omega arith)
@@ -141,7 +142,7 @@ module _ (mark : ℕ) (s : List ℕ) where
       rw (parted-last mark s from h e) (omega arith))
 
   -- what comes after a piece is found from its end on
-  pub piece-after : (from k : ℕ) {e : Extent} → piece_of mark s from k ≡ At e → (j : ℕ)
+  pub piece-after : (from k : ℕ) {e : Extent} → piece_of mark s from k ≡ Some e → (j : ℕ)
       → piece_of mark s from (suc k + j) ≡ piece_after mark s e.to j
   unfolding piece_of
   piece-after from zero {e} p j =
@@ -152,4 +153,4 @@ module _ (mark : ℕ) (s : List ℕ) where
       let n : suc (suc k) + j ≡ suc (suc k + j) = omega arith in
       by_cases (ltb (next_of mark s from) (length s))
       (λ t. rw (n, t) (piece-after (next_of mark s from + 1) k (rw t at p) j))
-      (λ t. let w : Absent ≡ At e = rw t at p in let z : ◌≡◌ {A = ℕ} 0 1 = cc in absurd (omega arith))
+      (λ t. let w : None ≡ Some e = rw t at p in let z : ◌≡◌ {A = ℕ} 0 1 = cc in absurd (omega arith))

@@ -1,8 +1,8 @@
 -- A text cut at each byte of one value.
 use Rattle.std.specs.Prelude.{ℕ, zero, suc, ◌+◌, Bool, not, cond, List, [], ◌∷◌, eqb, ltb, length, drop}
+use Rattle.std.specs.Prelude.{Option, Some, None}
 use Rattle.stretch.specs.Class.{first_outside}
-use Rattle.fields.specs.declared.Piece.{Piece}
-use Rattle.fields.specs.declared.Piece.TheVariants.{At, Absent}
+use Rattle.fields.specs.declared.Extent.{Extent}
 
 -- c put on the front of the first piece
 abbrev pub on_first : ℕ → List (List ℕ) → List (List ℕ)
@@ -27,11 +27,11 @@ abbrev pub next_of : ℕ → List ℕ → ℕ → ℕ
 next_of mark s from = from + first_of mark (drop from s)
 
 -- where the piece of a number, from 0, lies of those from a place on
-unfoldable pub piece_of : ℕ → List ℕ → ℕ → ℕ → Piece
-piece_of mark s from zero = At (record { from = from; to = next_of mark s from })
+unfoldable pub piece_of : ℕ → List ℕ → ℕ → ℕ → Option Extent
+piece_of mark s from zero = Some (record { from = from; to = next_of mark s from })
 piece_of mark s from (suc k) =
-    cond (ltb (next_of mark s from) (length s)) (piece_of mark s (next_of mark s from + 1) k) Absent
+    cond (ltb (next_of mark s from) (length s)) (piece_of mark s (next_of mark s from + 1) k) None
 
 -- the same of those behind a piece that ends at a place: there are none where it ends the text
-abbrev pub piece_after : ℕ → List ℕ → ℕ → ℕ → Piece
-piece_after mark s end k = cond (ltb end (length s)) (piece_of mark s (end + 1) k) Absent
+abbrev pub piece_after : ℕ → List ℕ → ℕ → ℕ → Option Extent
+piece_after mark s end k = cond (ltb end (length s)) (piece_of mark s (end + 1) k) None

@@ -11,16 +11,9 @@ mod scan;
 pub use extents::{count_marks, extent_of, nth_piece, piece_after};
 pub use scan::next;
 
-// Where a piece of a text lies.
+// Where a piece of a text lies: two places and no slice, so that what is found in a text is told by an equation.
 #[derive(Clone, Copy)]
 pub struct Extent {
     pub from: usize,
     pub to: usize,
-}
-
-// The piece that is asked for.
-#[derive(Clone, Copy)]
-pub enum Piece {
-    At(Extent),
-    Absent,
 }

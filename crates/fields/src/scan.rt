@@ -7,12 +7,9 @@ ghost use Rattle.fields.specs.Cut.{next_of};
 pub fn next(s: &[u8], from: usize, byte: u8) -> usize
     ensures { result ≡ next_of byte s.now from }
 {
-    let mut i = from;
-    while i < s.len() {
-        if s[i] == byte {
-            return i;
-        }
-        i += 1;
-    }
-    i
+    let Some(tail) = s.get(from..) else {
+        return from;
+    };
+    let first = tail.iter().position(|&b| b == byte);
+    from + first.unwrap_or(tail.len())
 }

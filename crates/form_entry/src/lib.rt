@@ -9,11 +9,18 @@ mod form;
 
 pub use form::enter_form;
 
-// The answer of an entry: how the allele was found, its number, and how far its normal form moved.
+// How an entry found its allele: nowhere, inactive, or active.
+#[derive(Clone, Copy, PartialEq, Eq, Debug)]
+pub enum Way {
+    New,
+    Again,
+    Known,
+}
+
+// The answer of an accepted entry: how the allele was found, its number, and how far its normal form moved.
 #[derive(Clone, Copy)]
-pub enum Entered {
-    New(u64, moved::Moved),
-    Again(u64, moved::Moved),
-    Known(u64, moved::Moved),
-    Refused(refusal::Refusal),
+pub struct Entered {
+    pub found: Way,
+    pub number: u64,
+    pub moved: moved::Moved,
 }

@@ -1,18 +1,16 @@
 -- What an entry finds: a number that stands for its altered sequence, or that none does.
-use Prim.Native.Nat.{ℕ, ◌+◌, ◌≤◌}
+use Prim.Native.Nat.{ℕ, ◌+◌}
 use native.Mathlib.Omega.{arith}
 use mathlib.Core.Path.{◌≡◌}
-use mathlib.Core.Bool.{true, false}
 use mathlib.Core.List.{List}
-use lib.Dec.{eqb}
-use borrow.Author.Tests.{eqb-true, eqb-false}
-use Rattle.stretch.proofs.Cases.{by_cases}
+use Rattle.std.specs.Prelude.{Some, None}
 use Rattle.normal_form.specs.Form.{Normal}
 use Rattle.image.specs.Fields.{issued, status_of, active, inactive}
 use Rattle.lookup.specs.Lookup.{holds, lowest_holding}
-use Rattle.form_entry.specs.Found.{◌under◌, new, again, known, found}
+use Rattle.form_entry.specs.declared.Way.TheVariants.{New as new, Again as again, Known as known}
+use Rattle.form_entry.specs.Found.{◌under◌, found}
 use Rattle.history.specs.Demand.{Live}
-use Rattle.lookup.proofs.Lowest.{lowest-passes, lowest-none}
+use Rattle.lookup.proofs.Lowest.{by_option, lowest-passes, lowest-none}
 use Rattle.history.proofs.Proper.{Has, holds-told, holds-met}
 
 -- number i of this status has the form
@@ -32,28 +30,26 @@ pub data Finding (b : List ℕ) (f : Normal) : Type 0 where
 
 module _ (b : List ℕ) (f : Normal) where
   module _ (status : ℕ) where
-    some : eqb (lowest_holding b status f) 0 ≡ false → Match b f status (lowest_holding b status f)
+    some : (i : ℕ) → lowest_holding b status f ≡ Some i → Match b f status i
     unfolding lowest_holding
-    some e =
-        let n = eqb-false (lowest_holding b status f) 0 e in
-        let from : 1 ≤ lowest_holding b status f = omega (arith, n) in
-        let q = lowest-passes (holds b status f) (issued b) from in
-        let t = holds-told b status f (lowest_holding b status f) q.0 in
-        record { live = record { from = from; to = q.1 }; status-is = t.0; has = t.1 }
+    some i e =
+        let q = lowest-passes (holds b status f) (issued b) i e in
+        let t = holds-told b status f i q.0 in
+        record { live = record { from = q.1; to = q.2 }; status-is = t.0; has = t.1 }
 
-    none : eqb (lowest_holding b status f) 0 ≡ true → Unmatched b f status
+    none : lowest_holding b status f ≡ None → Unmatched b f status
     unfolding lowest_holding
     none e i m =
-        let fails = lowest-none (holds b status f) (issued b) (eqb-true _ _ e) i m.live.from m.live.to in
+        let fails = lowest-none (holds b status f) (issued b) e i m.live.from m.live.to in
         let apart : ◌≡◌ {A = ℕ} 0 1 = cc (holds-met b status f i m.status-is m.has, fails) in
         omega arith
 
   pub found-finding : Finding b f
   unfolding found
   found-finding =
-      by_cases (eqb (lowest_holding b active f) 0)
+      by_option (lowest_holding b active f)
       (λ e.
-      by_cases (eqb (lowest_holding b inactive f) 0)
+      by_option (lowest_holding b inactive f)
       (λ g. nowhere (rw (e, g)) (none active e) (none inactive g))
-      (λ g. withdrawn_as (lowest_holding b inactive f) (rw (e, g)) (some inactive g)))
-      (λ e. active_as (lowest_holding b active f) (rw e) (some active e))
+      (λ i g. withdrawn_as i (rw (e, g)) (some inactive i g)))
+      (λ i e. active_as i (rw e) (some active i e))

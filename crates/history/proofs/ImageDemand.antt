@@ -4,7 +4,8 @@ use mathlib.Core.Path.{refl}
 use mathlib.Core.Logic.{inl, inr}
 use mathlib.Core.List.{List}
 use Rattle.image.specs.Fields.{status_of}
-use Rattle.form_entry.specs.Found.{Way, new}
+use Rattle.form_entry.specs.declared.Way.{Way}
+use Rattle.form_entry.specs.declared.Way.TheVariants.{New as new}
 use Rattle.history.specs.Events.{Event, entry, undo, unsealed}
 use Rattle.history.specs.Demand.{Active, Demand, EntryDemand, UndoDemand}
 use Rattle.history.proofs.View.{View, Moves}

@@ -4,7 +4,8 @@ use mathlib.Core.Path.{◌≡◌, sym, ◌∙◌, subst}
 use mathlib.Core.Logic.{inl, inr, ⊎_elim}
 use mathlib.Core.List.{List, ◌∷◌}
 use borrow.Author.Tests.{eq-eqb, ne_eqb}
-use Rattle.form_entry.specs.Found.{Way, new}
+use Rattle.form_entry.specs.declared.Way.{Way}
+use Rattle.form_entry.specs.declared.Way.TheVariants.{New as new}
 use Rattle.history.specs.Events.{Event, entry, withdrawal, undo, seal, refusal, Occurs, meant}
 use Rattle.history.proofs.View.{View, KeepsOthers, New, Again}
 use Rattle.history.proofs.Equal.{by_equal}

@@ -4,7 +4,7 @@ use Rattle.stretch.specs.Below.{below}
 use Rattle.stretch.specs.Common.{lcp, lcs}
 use Rattle.stretch.specs.Over.{over}
 use Rattle.stretch.specs.Same.{same}
-use Rattle.refusal.specs.declared.Outcome.TheVariants.{Accepted}
+use Rattle.std.specs.Prelude.{Ok}
 use Rattle.stretch.specs.Class.{every, first_outside}
 use Rattle.alphabets.specs.Alphabets.{letter, residue, base64url, digest_text_grounds}
 use Rattle.normal_form.specs.Form.{altered, shorter, within, ahead, behind, kind_in, kind_of, changed_form, normal}
@@ -15,8 +15,6 @@ use Rattle.image.specs.Fields.{record_place, record_of, replacement_of}
 use Rattle.image.specs.Formed.{laid_out, counts_within, within_limits, header_formed, lengths, record_good, entry_good}
 use Rattle.image.specs.Formed.{well_formed}
 use Rattle.moved.specs.Moved.{moved_by}
-use Rattle.form_entry.specs.declared.Entered.TheVariants.{New, Again, Known}
-use Rattle.register.specs.declared.Undone.TheVariants.{Number}
 use Rattle.lookup.specs.Lookup.{holds, lowest, lowest_holding}
 use Rattle.form_entry.specs.Found.{found}
 use Rattle.changes.specs.Changes.{blanked, journalled, marked, withdrawn, reentered, recorded, pooled, counted}
@@ -58,11 +56,11 @@ worked-register =
 pub worked-run : Run reference blank events closed
 worked-run =
     no_calls
-    then enters digest 4 4 _ (New 1 _) worked-register.case-1
-    then undoes (Number 1) worked-register.undone-1
-    then enters digest 2 3 _ (New 2 _) worked-register.case-4
-    then enters digest 1 2 _ (Again 1 _) worked-register.case-2
+    then enters digest 4 4 _ (Ok _) worked-register.case-1
+    then undoes (Ok 1) worked-register.undone-1
+    then enters digest 2 3 _ (Ok _) worked-register.case-4
+    then enters digest 1 2 _ (Ok _) worked-register.case-2
     then enters digest 3 5 _ _ worked-register.case-6
-    then enters digest 1 5 _ (Known 2 _) worked-register.case-5
-    then withdraws 1 Accepted worked-register.withdrawn-1
-    then seals Accepted worked-register.sealed-all
+    then enters digest 1 5 _ (Ok _) worked-register.case-5
+    then withdraws 1 (Ok tt) worked-register.withdrawn-1
+    then seals (Ok tt) worked-register.sealed-all

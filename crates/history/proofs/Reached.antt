@@ -5,15 +5,15 @@ use mathlib.Core.Path.{◌≡◌}
 use mathlib.Core.Bool.{true}
 use mathlib.Core.List.{List, [], ◌∷◌, ◌++◌, append-nil}
 use lib.ListN.{length}
-use Rattle.refusal.specs.declared.Outcome.TheVariants.{Accepted}
+use Rattle.std.specs.Prelude.{Ok}
 use Rattle.image.specs.Formed.{well_formed}
-use Rattle.refusal.proofs.Verdict.{outcome-accepted}
+use Rattle.refusal.proofs.Verdict.{told-accepted}
 use Rattle.refusal.specs.Verdict.{verdict}
 use Rattle.changes.specs.Changes.{blanked}
 use Rattle.blank.specs.Calls.{Blanks, blank_grounds}
 use Rattle.blank.proofs.BlankTests.{accepted-blankable}
 use Rattle.effects.proofs.BlankedFormed.{blankable-seen, blankable-formed}
-use Rattle.form_entry.specs.Found.{Way}
+use Rattle.form_entry.specs.declared.Way.{Way}
 use Rattle.history.specs.Events.{Event, entry, undo}
 use Rattle.history.specs.Runs.{Call, Run, no_calls, ◌then◌}
 use Rattle.history.specs.Demand.{Live, Demand, EntryDemand, UndoDemand}
@@ -64,12 +64,12 @@ module _ {r b₀ b : List ℕ} {h₀ h : List Event} (a : Agree r h₀ b₀) whe
 
 -- from a blank image, whatever the reference
 module _ (b : List ℕ) (n : ℕ) (digest : List ℕ) (records journal pool : ℕ) (blank : List ℕ)
-    (p : Blanks b n digest records journal pool Accepted blank) (r : List ℕ)
+    (p : Blanks b n digest records journal pool (Ok tt) blank) (r : List ℕ)
   where
     -- which agrees with the empty history
     pub blank-agrees : Agree r [] blank
     blank-agrees =
-        let v = outcome-accepted (verdict (blank_grounds (length b) n digest records journal pool)) p.answers in
+        let v = (told-accepted (verdict (blank_grounds (length b) n digest records journal pool)) tt tt p.answers).0 in
         let k = accepted-blankable (length b) n digest records journal pool v in
         let c = blanked b n digest records journal pool in
         let s = blankable-seen b n digest records journal pool k in

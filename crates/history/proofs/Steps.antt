@@ -24,6 +24,7 @@ use Rattle.image.specs.Formed.{well_formed}
 use Rattle.image.proofs.WellFormed.{FormedEntry, Formed, well_formed-formed}
 use Rattle.image.proofs.Lengths.{formed-inside}
 use Rattle.changes.specs.Changes.{withdrawn, reentered, numbered, undone, latest, sealed}
+use Rattle.std.specs.Prelude.{Result, Ok, Err}
 use Rattle.refusal.specs.Keeps.{Keeps}
 use Rattle.effects.proofs.Seen.{Stays, Journalled, Issues}
 use Rattle.effects.proofs.Read.{Inside}
@@ -31,7 +32,8 @@ use Rattle.effects.proofs.Marked.{withdrawn-seen, reentered-seen, undone-seen, s
 use Rattle.effects.proofs.Numbered.{numbered-seen}
 use Rattle.effects.proofs.StayFormed.{journalled-formed, taken-back-formed, closed-formed}
 use Rattle.effects.proofs.NumberedFormed.{issues-formed}
-use Rattle.form_entry.specs.Found.{◌under◌, new, again, known, found, answer_of, entered}
+use Rattle.form_entry.specs.declared.Way.TheVariants.{New as new, Again as again, Known as known}
+use Rattle.form_entry.specs.Found.{◌under◌, found, answer_of, entered}
 use Rattle.form_entry.specs.Calls.{room_grounds}
 use Rattle.entry.specs.Calls.{Enters}
 use Rattle.register.specs.Calls.{Withdraws, Undoes, Seals}
@@ -245,16 +247,16 @@ module _ (r b : List ℕ) (state : State r b) where
           }
 
     entry-step : (by : Moved) → Finding b f
-        → Step r b (entry_event t (answer_of (found b f) by)) (entered b f (found b f))
+        → Step r b (entry_event t (Ok (answer_of (found b f) by))) (entered b f (found b f))
     entry-step by (active_as i e m) = rw e (known_step i m)
     entry-step by (withdrawn_as i e m) = rw e (again-step i e m)
     entry-step by (nowhere e none-active none-inactive) = rw e (new-step e none-active none-inactive)
 
   -- an accepted call makes its step, and a refused one leaves all as it was
-  by-verdict : {A : Type 0} {refuses : Refusal → A} {v : Verdict} {said answer : A} {changed left : List ℕ}
-      (event : A → Event) → ((why : Refusal) → event (refuses why) ≡ refusal)
-      → Keeps refuses v said b changed answer left
-      → (v ≡ accepted → Step r b (event said) changed)
+  by-verdict : {A : Type 0} {v : Verdict} {said : A} {answer : Result A Refusal} {changed left : List ℕ}
+      (event : Result A Refusal → Event) → ((why : Refusal) → event (Err why) ≡ refusal)
+      → Keeps v said b changed answer left
+      → (v ≡ accepted → Step r b (event (Ok said)) changed)
       → Step r b (event answer) left
   by-verdict {v = accepted} event refuses p go = rw (p.leaves, p.answers) (go refl)
   by-verdict {v = refused why} event refuses p go =

@@ -4,7 +4,8 @@ use mathlib.Core.Path.{◌≡◌, refl, sym, ◌∙◌, ap, subst}
 use mathlib.Core.Bool.{true, true≢false}
 use mathlib.Core.Logic.{◌↔◌}
 use mathlib.Core.List.{List}
-use Rattle.form_entry.specs.Found.{Way, new, again, known}
+use Rattle.form_entry.specs.declared.Way.{Way}
+use Rattle.form_entry.specs.declared.Way.TheVariants.{New as new, Again as again, Known as known}
 use Rattle.history.specs.Events.{Event, entry, Occurs, unsealed, sealed, standing, meant, replayed}
 use Rattle.history.proofs.View.{View, Moves}
 use Rattle.history.proofs.Numbers.{StandsFor, Numbers, again-stands}

@@ -2,7 +2,8 @@
 use Rattle.std.specs.Prelude.{ℕ, ◌≤◌, ◌≡◌, true, ◌↔◌, List, ◌∷◌, length}
 use Rattle.normal_form.specs.Form.{altered}
 use Rattle.image.specs.Fields.{issued, journal_count, start_of, end_of, status_of, replacement_of, active}
-use Rattle.form_entry.specs.Found.{Way, new}
+use Rattle.form_entry.specs.declared.Way.{Way}
+use Rattle.form_entry.specs.declared.Way.TheVariants.{New as new}
 use Rattle.history.specs.Events.{Event, entry, Occurs, Change, number_of, unsealed, standing, meant, replayed}
 
 -- a number stands for something: it is issued

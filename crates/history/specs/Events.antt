@@ -1,7 +1,8 @@
 -- Histories: what each call came to, which changes stand, and the set of altered sequences that they make.
 use Rattle.std.specs.Prelude.{ℕ, ◌≡◌, ◌⊎◌, Bool, true, false, cond, List, [], ◌∷◌, ◌++◌, eqb, drop}
 use Rattle.stretch.specs.Same.{same}
-use Rattle.form_entry.specs.Found.{Way, new, again, known}
+use Rattle.form_entry.specs.declared.Way.{Way}
+use Rattle.form_entry.specs.declared.Way.TheVariants.{New as new, Again as again, Known as known}
 
 -- an accepted entry, with its answer, its number and the altered sequence that it made; an accepted withdrawal
 -- of a number; an accepted undo, with the number answered; an accepted seal; a refused call

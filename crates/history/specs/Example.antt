@@ -1,15 +1,16 @@
 -- Document 01, "Worked alleles": the register with room for 2 records, 3 journal entries and 15 residues, and two
 -- calls more, so that each kind of call is accepted once.
-use Rattle.std.specs.Prelude.{ℕ, List, [], ◌∷◌, replicate}
+use Rattle.std.specs.Prelude.{ℕ, List, [], ◌∷◌, replicate, Result, Ok, Err}
 use Prim.Native.String.{String}
 use Rattle.stretch.specs.Ascii.{ascii}
-use Rattle.refusal.specs.declared.Outcome.TheVariants.{Accepted}
+use Rattle.refusal.specs.declared.Refusal.{Refusal}
+use Rattle.refusal.specs.declared.Reason.TheVariants.{NoFreeRecord}
 use Rattle.normal_form.specs.Form.{altered, normal}
+use Rattle.moved.specs.declared.Moved.{Moved}
 use Rattle.moved.specs.Moved.{by}
 use Rattle.form_entry.specs.declared.Entered.{Entered}
-use Rattle.form_entry.specs.declared.Entered.TheVariants.{New, Again, Known, Refused}
-use Rattle.form_entry.specs.Found.{new, again, known}
-use Rattle.register.specs.declared.Undone.TheVariants.{Number}
+use Rattle.form_entry.specs.declared.Way.{Way}
+use Rattle.form_entry.specs.declared.Way.TheVariants.{New as new, Again as again, Known as known}
 use Rattle.changes.specs.Changes.{blanked, numbered, reentered, withdrawn, undone, sealed}
 use Rattle.entry.specs.Calls.{Enters}
 use Rattle.blank.specs.Calls.{Blanks}
@@ -48,21 +49,25 @@ one_withdrawn = withdrawn one_again 1
 unfoldable pub closed : List ℕ
 closed = sealed one_withdrawn
 
+-- an accepted entry's answer
+abbrev pub answer : Way → ℕ → Moved → Entered
+answer w i m = record { found = w; number = i; moved = m }
+
 -- an entry on that reference
-abbrev pub Entry : List ℕ → ℕ → ℕ → String → Entered → List ℕ → Type 0
+abbrev pub Entry : List ℕ → ℕ → ℕ → String → Result Entered Refusal → List ℕ → Type 0
 Entry b start end x = Enters b digest reference start end (ascii x)
 
 -- each call, its answer and the image that it leaves
 pub record Played : Type 0 where
-  pub first : Blanks room 11 digest 2 3 15 Accepted blank
-  pub case-1 : Entry blank 4 4 "CAG" (New 1 (by 3 0 6 0)) one
-  pub undone-1 : Undoes one (Number 1) one_undone
-  pub case-4 : Entry one_undone 2 3 "T" (New 2 (by 0 0 0 0)) two
-  pub case-2 : Entry two 1 2 "CAGC" (Again 1 (by 0 0 8 0)) one_again
-  pub case-6 : Entry one_again 3 5 "TTT" (Refused (record { number = 13; value = 2 })) one_again
-  pub case-5 : Entry one_again 1 5 "CTGC" (Known 2 (by 0 1 0 2)) one_again
-  pub withdrawn-1 : Withdraws one_again 1 Accepted one_withdrawn
-  pub sealed-all : Seals one_withdrawn Accepted closed
+  pub first : Blanks room 11 digest 2 3 15 (Ok tt) blank
+  pub case-1 : Entry blank 4 4 "CAG" (Ok (answer new 1 (by 3 0 6 0))) one
+  pub undone-1 : Undoes one (Ok 1) one_undone
+  pub case-4 : Entry one_undone 2 3 "T" (Ok (answer new 2 (by 0 0 0 0))) two
+  pub case-2 : Entry two 1 2 "CAGC" (Ok (answer again 1 (by 0 0 8 0))) one_again
+  pub case-6 : Entry one_again 3 5 "TTT" (Err (record { reason = NoFreeRecord; value = 2 })) one_again
+  pub case-5 : Entry one_again 1 5 "CTGC" (Ok (answer known 2 (by 0 1 0 2))) one_again
+  pub withdrawn-1 : Withdraws one_again 1 (Ok tt) one_withdrawn
+  pub sealed-all : Seals one_withdrawn (Ok tt) closed
 
 -- the altered sequence that an entry makes
 abbrev pub made : ℕ → ℕ → String → List ℕ

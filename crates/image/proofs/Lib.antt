@@ -4,7 +4,7 @@ pub mod Arranged
 pub mod Spared
 pub mod Tests
 pub mod Pool
-pub mod Journal
+pub mod Range
 pub mod Tested
 pub mod WellFormed
 pub mod Lengths

@@ -16,9 +16,8 @@ use Rattle.stretch.proofs.Below.{below_at, below-first, below_fails}
 use Rattle.stretch.specs.Class.{every}
 use Rattle.alphabets.specs.Alphabets.{residue}
 use Rattle.stretch.proofs.Class.{every_append}
-use Rattle.image.specs.Numbers.{number}
-use Rattle.image.specs.Fields.{issued, pool_used, record_place, end_in_record, offset_in_record, length_in_record}
-use Rattle.image.specs.Fields.{status_in_record, active, pool_offset, reference_length, start_of, end_of, offset_of}
+use Rattle.image.specs.Fields.{issued, pool_used}
+use Rattle.image.specs.Fields.{active, pool_offset, reference_length, start_of, end_of, offset_of}
 use Rattle.image.specs.Fields.{length_of, status_of, replacement_of}
 use Rattle.image.specs.Formed.{all, lengths, record_good}
 use Rattle.image.proofs.Tests.{all_append, all_one, cond_both, cond-last}
@@ -80,21 +79,19 @@ good-pool b (suc n) h =
     (cond-swap (every residue (part b at (at + length_of b (suc n)))) (every residue (part b (pool_offset b) at))))
 
 -- the loop over the records: one as the code tests it, one more, one that is not placed, and the end
-pub placed_at : (b : List ℕ) (k at reference before : ℕ) → at ≡ record_place (k + 1) → reference ≡ reference_length b
-    → before ≡ lengths b k
-    → all (leb (number b at) (number b (at + end_in_record))
-    ∷ leb (number b (at + end_in_record)) reference
-    ∷ leb (number b (at + status_in_record)) active
-    ∷ eqb (number b (at + offset_in_record)) before
+pub placed_at : (b : List ℕ) (k reference before : ℕ) → reference ≡ reference_length b → before ≡ lengths b k
+    → all (leb (start_of b (k + 1)) (end_of b (k + 1))
+    ∷ leb (end_of b (k + 1)) reference
+    ∷ leb (status_of b (k + 1)) active
+    ∷ eqb (offset_of b (k + 1)) before
     ∷ [])
     ≡ placed b k
 unfolding placed
-placed_at b k at reference before p q r = rw (p, q, r, add-one k)
+placed_at b k reference before q r = rw (q, r, add-one k)
 
-pub lengths-next : (b : List ℕ) (k at before : ℕ) → at ≡ record_place (k + 1) → before ≡ lengths b k
-    → before + number b (at + length_in_record) ≡ lengths b (k + 1)
+pub lengths-next : (b : List ℕ) (k before : ℕ) → before ≡ lengths b k → before + length_of b (k + 1) ≡ lengths b (k + 1)
 unfolding lengths
-lengths-next b k at before p q = rw (p, q, add-one k)
+lengths-next b k before q = rw (q, add-one k)
 
 module _ (b : List ℕ) where
   pub records-bad : (k : ℕ) → k < issued b → placed b k ≡ false

@@ -2,7 +2,7 @@
 -- outside.
 use Prim.Native.Nat.{ℕ}
 use mathlib.Core.Path.{◌≡◌, refl, ◌∙◌, sym}
-use mathlib.Core.Bool.{Bool, true, false, cond, ◌&&◌}
+use mathlib.Core.Bool.{Bool, true, false, cond}
 use mathlib.Core.List.{List, [], ◌∷◌, ◌++◌}
 use borrow.Author.Tests.{eqb-true, eq-eqb}
 use lib.Dec.{eqb}
@@ -11,23 +11,6 @@ use Rattle.stretch.proofs.Cases.{by_cases}
 use Rattle.stretch.specs.Class.{every, first_outside}
 use Rattle.stretch.proofs.Outside.{first_outside-all, first_outside-every}
 use Rattle.image.specs.Formed.{all}
-
-pub all_two : (p q : Bool) → p && q ≡ all (p ∷ q ∷ [])
-all_two true true = refl
-all_two true false = refl
-all_two false q = refl
-
-pub all_three : (p q r : Bool) → p && q && r ≡ all (p ∷ q ∷ r ∷ [])
-all_three true q r = all_two q r
-all_three false q r = refl
-
-pub all-four : (p q r s : Bool) → p && q && r && s ≡ all (p ∷ q ∷ r ∷ s ∷ [])
-all-four true q r s = all_three q r s
-all-four false q r s = refl
-
-pub all-five : (p q r s t : Bool) → p && q && r && s && t ≡ all (p ∷ q ∷ r ∷ s ∷ t ∷ [])
-all-five true q r s t = all-four q r s t
-all-five false q r s t = refl
 
 pub all_append : (ts us : List Bool) → all (ts ++ us) ≡ cond (all ts) (all us) false
 all_append [] us = refl

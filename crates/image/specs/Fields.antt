@@ -148,6 +148,10 @@ status_in_record = 16
 abbrev pub status_place : ℕ → ℕ
 status_place i = record_place i + status_in_record
 
+-- what the field at so many bytes from a record's start holds
+abbrev pub field_of : List ℕ → ℕ → ℕ → ℕ
+field_of b i field = number b (record_place i + field)
+
 -- what they hold
 abbrev pub start_of : List ℕ → ℕ → ℕ
 start_of b i = number b (record_place i)

@@ -1,4 +1,6 @@
--- What the header of a well-formed image says, as the code that stands after the test needs it.
+-- What the header of a well-formed image says, as the code that stands after the test needs it. This, that an image is
+-- well formed and that a number is issued stand as `requires`, and in no type: an image is lent as `&mut [u8]`, each
+-- write makes another of it, and a value that held such a fact would have to be made anew after each.
 use Rattle.std.specs.Prelude.{ℕ, ◌+◌, ◌*◌, ◌≤◌, ◌≡◌, List, length}
 use Rattle.refusal.specs.Limits.{reference_limit}
 use Rattle.image.specs.Fields.{header_size, entry_size, count_limit, pool_limit, journal_place, record_capacity, issued}

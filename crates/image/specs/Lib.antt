@@ -1,4 +1,5 @@
 pub mod Numbers
 pub mod Fields
 pub mod Formed
+pub mod Statuses
 pub mod Header

@@ -11,12 +11,14 @@ mod header;
 mod number;
 mod places;
 mod records;
+mod status;
 
 pub use formed::well_formed;
 pub use header::header_formed;
 pub use number::{put_number, read_number};
 pub use places::{journal_at, pool_at, record_at};
-pub use records::status_of;
+pub use records::{is_active, read_field};
+pub use status::Status;
 
 pub const HEADER_SIZE: usize = 76;
 
@@ -58,7 +60,9 @@ pub const REFERENCE_LENGTH_AT: usize = 40;
 
 pub const DIGEST_AT: usize = 44;
 
-// The places of a record's fields within it; its start is the first.
+// The places of a record's fields within it.
+pub const START_IN_RECORD: usize = 0;
+
 pub const END_IN_RECORD: usize = 4;
 
 pub const OFFSET_IN_RECORD: usize = 8;
@@ -66,7 +70,3 @@ pub const OFFSET_IN_RECORD: usize = 8;
 pub const LENGTH_IN_RECORD: usize = 12;
 
 pub const STATUS_IN_RECORD: usize = 16;
-
-pub const INACTIVE: usize = 0;
-
-pub const ACTIVE: usize = 1;

@@ -1,47 +1,58 @@
 // The records of an image, where its header is as it should be.
-ghost use Rattle.std.specs.Prelude.{◌≡◌, false, cond, [], ◌∷◌, ◌+◌, ◌≤◌, leb, eqb, length};
+ghost use Rattle.std.specs.Prelude.{◌≡◌, false, cond, [], ◌∷◌, ◌+◌, ◌^◌, ◌<◌, ◌≤◌, leb, eqb};
 ghost use Rattle.stretch.specs.Below.{below};
 ghost use Rattle.stretch.specs.Part.{part};
 ghost use Rattle.stretch.specs.Class.{every};
 ghost use Rattle.alphabets.specs.Alphabets.{residue};
-ghost use Rattle.image.specs.Numbers.{number};
-ghost use Rattle.image.specs.Fields.{issued, pool_used, pool_offset, end_in_record, offset_in_record, status_in_record};
-ghost use Rattle.image.specs.Fields.{status_of, active};
+ghost use Rattle.image.specs.Fields.{issued, pool_used, pool_offset, status_in_record, active};
+ghost use Rattle.image.specs.Fields.{field_of, start_of, end_of, status_of, offset_of};
 ghost use Rattle.image.specs.Formed.{all, lengths, record_good};
 ghost use Rattle.image.specs.Header.{Header};
 
 use super::number::read_number;
 use super::places::record_at;
+use super::status::Status;
 use super::{
-    ACTIVE, END_IN_RECORD, ISSUED_AT, LENGTH_IN_RECORD, OFFSET_IN_RECORD, POOL_OFFSET_AT,
-    POOL_USED_AT, REFERENCE_LENGTH_AT, STATUS_IN_RECORD,
+    END_IN_RECORD, ISSUED_AT, LENGTH_IN_RECORD, OFFSET_IN_RECORD, POOL_OFFSET_AT, POOL_USED_AT,
+    REFERENCE_LENGTH_AT, START_IN_RECORD, STATUS_IN_RECORD,
 };
 use alphabets::first_foreign;
 
-// The status of a number that was issued.
-pub fn status_of(image: &[u8], number: usize) -> usize
+// The field of an issued number's record that stands so many bytes from its start.
+pub fn read_field(image: &[u8], number: usize, field: usize) -> usize
     requires header { Header image.now }
     requires le_number { (1 ≤ number) × (number ≤ issued image.now) }
-    ensures { result ≡ status_of image.now number }
+    requires inside { field ≤ status_in_record }
+    ensures { (result ≡ field_of image.now number field) × (result < 2 ^ 32) }
 {
-    read_number(image, record_at(number) + STATUS_IN_RECORD)
+    read_number(image, record_at(number) + field)
 }
 
-// The tests of the record at a place but for its residues, where `before` residues stand before them.
-fn record_placed(image: &[u8], at: usize, reference: usize, before: usize) -> bool
-    requires { at + status_in_record + 4 ≤ length image.now }
+// Whether a number that was issued is active.
+pub fn is_active(image: &[u8], number: usize) -> bool
+    requires header { Header image.now }
+    requires le_number { (1 ≤ number) × (number ≤ issued image.now) }
+    ensures { result ≡ eqb (status_of image.now number) active }
+{
+    read_field(image, number, STATUS_IN_RECORD) == usize::from(Status::Active)
+}
+
+// The tests of a record but for its residues, where `before` residues stand before them.
+fn record_placed(image: &[u8], number: usize, reference: usize, before: usize) -> bool
+    requires header { Header image.now }
+    requires le_number { (1 ≤ number) × (number ≤ issued image.now) }
     ensures { result ≡ all (
-        leb (number image.now at) (number image.now (at + end_in_record))
-        ∷ leb (number image.now (at + end_in_record)) reference
-        ∷ leb (number image.now (at + status_in_record)) active
-        ∷ eqb (number image.now (at + offset_in_record)) before
+        leb (start_of image.now number) (end_of image.now number)
+        ∷ leb (end_of image.now number) reference
+        ∷ leb (status_of image.now number) active
+        ∷ eqb (offset_of image.now number) before
         ∷ []) }
 {
-    let end = read_number(image, at + END_IN_RECORD);
-    (read_number(image, at) <= end)
-        & (end <= reference)
-        & (read_number(image, at + STATUS_IN_RECORD) <= ACTIVE)
-        & (read_number(image, at + OFFSET_IN_RECORD) == before)
+    let start = read_field(image, number, START_IN_RECORD);
+    let end = read_field(image, number, END_IN_RECORD);
+    let status = read_field(image, number, STATUS_IN_RECORD);
+    let offset = read_field(image, number, OFFSET_IN_RECORD);
+    start <= end && end <= reference && status <= usize::from(Status::Active) && offset == before
 }
 
 // Whether that many bytes are all that the pool uses, and each is a residue.
@@ -71,14 +82,12 @@ pub fn records_formed(image: &[u8]) -> bool
     let issued = read_number(image, ISSUED_AT);
     let reference = read_number(image, REFERENCE_LENGTH_AT);
     let mut residues = 0;
-    let mut passed = 0;
-    while passed < issued {
-        let at = record_at(passed + 1);
-        if !record_placed(image, at, reference, residues) {
+    for passed in 0..issued {
+        let number = passed + 1;
+        if !record_placed(image, number, reference, residues) {
             return false;
         }
-        residues += read_number(image, at + LENGTH_IN_RECORD);
-        passed += 1;
+        residues += read_field(image, number, LENGTH_IN_RECORD);
     }
     pool_formed(image, residues)
 }

@@ -16,13 +16,13 @@ use Rattle.stretch.proofs.Outside.{first_outside-le}
 use Rattle.decimals.specs.Number.{number_of}
 use Rattle.fields.specs.Cut.{parted, other, first_of, next_of}
 use Rattle.fields.proofs.Cutting.{next_le, parted-cut, parted-one, parted-next, parted-last}
-use Rattle.input_line.specs.declared.Line.TheVariants.{Unread}
+use Rattle.std.specs.Prelude.{None}
 use Rattle.input_line.specs.Meaning.{unread, space, replacement_of, numbered, meaning_of_fields, meaning_of}
 use Rattle.input_line.specs.Meaning.{ReadsLine}
 use Rattle.input_line.specs.Inner.{Fields}
 
 module _ (line : List ℕ) where
-  pub reads_nothing : meaning_of line ≡ unread → ReadsLine line Unread
+  pub reads_nothing : meaning_of line ≡ unread → ReadsLine line None
   reads_nothing e = record { means = sym e; inside = omega arith }
 
   -- one field, and two

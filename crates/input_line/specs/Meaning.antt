@@ -1,13 +1,10 @@
 -- Document 01, "The line program": what a line says.
-use Rattle.std.specs.Prelude.{ℕ, ◌≤◌, ◌≡◌, cond, List, [], ◌∷◌, length, drop}
+use Rattle.std.specs.Prelude.{ℕ, ◌≤◌, ◌≡◌, cond, List, [], ◌∷◌, length, drop, Option, Some, None}
 use Rattle.stretch.specs.Ascii.{ascii}
 use Rattle.stretch.specs.Same.{same}
-use Rattle.decimals.specs.declared.Number.{Number}
-use Rattle.decimals.specs.declared.Number.TheVariants.{Is, Absent}
 use Rattle.decimals.specs.Number.{number_of}
 use Rattle.fields.specs.Cut.{parted}
 use Rattle.input_line.specs.declared.Line.{Line}
-use Rattle.input_line.specs.declared.Line.TheVariants.{Allele, Unread}
 
 -- what parts the fields of a line, and what ends a line
 abbrev pub space : ℕ
@@ -26,10 +23,10 @@ unfoldable pub replacement_of : List ℕ → List ℕ
 replacement_of field = cond (same field (ascii ".")) [] field
 
 -- two numbers and a replacement
-abbrev pub numbered : Number → Number → List ℕ → Meaning
-numbered (Is start) (Is end) x = allele start end x
-numbered (Is start) Absent x = unread
-numbered Absent end x = unread
+abbrev pub numbered : Option ℕ → Option ℕ → List ℕ → Meaning
+numbered (Some start) (Some end) x = allele start end x
+numbered (Some start) None x = unread
+numbered None end x = unread
 
 -- three fields, of which none is empty: an empty one is no number either
 abbrev pub meaning_of_fields : List (List ℕ) → Meaning
@@ -45,16 +42,16 @@ unfoldable pub meaning_of : List ℕ → Meaning
 meaning_of line = meaning_of_fields (parted space line)
 
 -- a read line's answer has the replacement as the rest of the line from a place on
-abbrev pub answer_meaning : List ℕ → Line → Meaning
-answer_meaning line Unread = unread
-answer_meaning line (Allele start end from) = allele start end (drop from line)
+abbrev pub answer_meaning : List ℕ → Option Line → Meaning
+answer_meaning line None = unread
+answer_meaning line (Some l) = allele l.start l.end (drop l.from line)
 
 -- that place, 0 where there is none
-abbrev pub place_in : Line → ℕ
-place_in Unread = 0
-place_in (Allele start end from) = from
+abbrev pub place_in : Option Line → ℕ
+place_in None = 0
+place_in (Some l) = l.from
 
 -- the answer means what the line says, and its place lies in the line
-pub record ReadsLine (line : List ℕ) (answer : Line) : Type 0 where
+pub record ReadsLine (line : List ℕ) (answer : Option Line) : Type 0 where
   pub means : answer_meaning line answer ≡ meaning_of line
   pub inside : place_in answer ≤ length line

@@ -12,7 +12,8 @@ pub use scan::line_end;
 
 // What a line says: the replacement is the rest of the line from `from` on.
 #[derive(Clone, Copy)]
-pub enum Line {
-    Allele { start: u64, end: u64, from: usize },
-    Unread,
+pub struct Line {
+    pub start: u64,
+    pub end: u64,
+    pub from: usize,
 }

@@ -4,7 +4,7 @@ ghost use Rattle.input_line.specs.Meaning.{replacement_of, ReadsLine};
 ghost use Rattle.input_line.specs.Inner.{Fields};
 
 use super::Line;
-use decimals::{Number, read_decimal};
+use decimals::read_decimal;
 use fields::next;
 
 // Where the replacement begins that the last field of the line, from `third` on, stands for.
@@ -23,38 +23,34 @@ fn replacement_from(line: &[u8], third: usize) -> usize
 }
 
 // What a line says whose first two fields end at `first` and `second`.
-fn read_fields(line: &[u8], first: usize, second: usize) -> Line
+fn read_fields(line: &[u8], first: usize, second: usize) -> Option<Line>
     requires { Fields line.now first second }
     ensures { ReadsLine line.now result }
 {
     let third = second + 1;
     if third == line.len() {
-        return Line::Unread;
+        return None;
     }
     if next(line, third, b' ') < line.len() {
-        return Line::Unread;
+        return None;
     }
-    let Number::Is(start) = read_decimal(&line[0..first]) else {
-        return Line::Unread;
-    };
-    let Number::Is(end) = read_decimal(&line[first + 1..second]) else {
-        return Line::Unread;
-    };
+    let start = read_decimal(&line[0..first])?;
+    let end = read_decimal(&line[first + 1..second])?;
     let from = replacement_from(line, third);
-    Line::Allele { start, end, from }
+    Some(Line { start, end, from })
 }
 
-// What a line says: three fields that single spaces part, or anything else.
-pub fn read_line(line: &[u8]) -> Line
+// What a line says: three fields that single spaces part, or nothing.
+pub fn read_line(line: &[u8]) -> Option<Line>
     ensures { ReadsLine line.now result }
 {
     let first = next(line, 0, b' ');
     if first == line.len() {
-        return Line::Unread;
+        return None;
     }
     let second = next(line, first + 1, b' ');
     if second == line.len() {
-        return Line::Unread;
+        return None;
     }
     read_fields(line, first, second)
 }

@@ -23,13 +23,11 @@ pub fn next_step(input: &[u8], step: Step, out: &mut [u8]) -> Step
     requires { Ready input.now step out.old }
     ensures { Steps input.now step out.old result out.new }
 {
-    let reference = step.reference;
-    let from = step.next;
-    let end = line_end(input, from);
-    let written = answer(&input[0..reference], &input[from..end], out);
+    let end = line_end(input, step.next);
+    let written = answer(&input[0..step.reference], &input[step.next..end], out);
     Step {
-        reference,
         next: end + 1,
         written,
+        ..step
     }
 }

@@ -13,11 +13,11 @@ use std::io::{Read, Write};
 fn print_answers(rt: &impl Print, input: &[u8], out: &mut [u8]) -> io::Result<()>
     requires { Enough input.now out.old }
 {
+    // No iterator: each step writes into the lent buffer, and is printed before the next one does.
     let mut step = first_step(input);
     while step.next < input.len() {
         step = next_step(input, step, out);
-        let end = step.written;
-        io::writer(rt).write_all(&out[0..end])?;
+        io::writer(rt).write_all(&out[0..step.written])?;
     }
     Ok(())
 }
@@ -26,6 +26,7 @@ fn print_answers(rt: &impl Print, input: &[u8], out: &mut [u8]) -> io::Result<()
 fn read_full<R: Read>(from: &mut R, input: &mut [u8]) -> io::Result<usize>
     ensures { IfOk result (λ count. count ≤ length input.new) }
 {
+    // No `read_to_end`: it reads into a `Vec`, and there is no heap.
     let mut count = 0;
     while count < input.len() {
         let more = from.read(&mut input[count..])?;

@@ -6,7 +6,8 @@ use mathlib.Core.List.{List}
 use lib.ListN.{length}
 use borrow.Author.Tests.{ltb-false}
 use Rattle.stretch.specs.Part.{part}
-use Rattle.refusal.specs.declared.Written.TheVariants.{Bytes}
+use Rattle.std.specs.Prelude.{Result, Ok}
+use Rattle.refusal.specs.declared.Refusal.{Refusal}
 use Rattle.refusal.specs.Limits.{reference_limit}
 use Rattle.refusal.specs.Verdict.{accepted, verdict}
 use Rattle.refusal.proofs.Verdict.{none-holds, verdict-fewer, verdict-later}
@@ -15,15 +16,14 @@ use Rattle.alphabets.specs.Alphabets.{digest_text_grounds}
 use Rattle.decimals.specs.Decimal.{decimal}
 use Rattle.text.specs.Layout.{location_text, before_end, before_start, before_digest}
 use Rattle.words.specs.Vocabulary.{Digest}
-use Rattle.text_reader.specs.declared.LocationRead.{LocationRead}
-use Rattle.text_reader.specs.declared.LocationRead.TheVariants.{Accepted}
+use Rattle.text_reader.specs.declared.LocationParts.{LocationParts}
 use Rattle.text_reader.specs.Accepted.{LocationText, ReadsLocation, HandsBack}
 use Rattle.text_reader.proofs.Promises.{reads-location-back, digest-of-back}
 use Rattle.location_identifier.specs.Calls.{interval_grounds, location_grounds, WritesLocation}
 use Rattle.location_identifier.proofs.Answers.{digest-given}
 
 module _ (n start end : ℕ) (digest out : List ℕ) (place k : ℕ) (left : List ℕ)
-    (p : WritesLocation n start end digest out place (Bytes k) left) where
+    (p : WritesLocation n start end digest out place (Ok k) left) where
   said : TextWritten (location_grounds n start end digest) (location_text start end digest) out place k left
   said = writes-unless-accepted _ _ out place k left p
 
@@ -46,8 +46,8 @@ module _ (n start end : ℕ) (digest out : List ℕ) (place k : ℕ) (left : Lis
         ltb-false n end (none-holds (interval_grounds n start end) passed 2),
       )
 
-  pub location-back : (answer : LocationRead) → ReadsLocation (part left place (place + k)) answer
-      → answer ≡ Accepted (record {
+  pub location-back : (answer : Result LocationParts Refusal) → ReadsLocation (part left place (place + k)) answer
+      → answer ≡ Ok (record {
         start = start;
         end = end;
         digest = length before_end + length (decimal end) + length before_start + length (decimal start)

@@ -7,7 +7,7 @@ use lib.ListN.{length, take, drop, length-drop}
 use Rattle.stretch.specs.Over.{Wrote}
 use Rattle.stretch.proofs.Over.{over-tail-front}
 use Rattle.stretch.proofs.Tail.{lent-tail}
-use Rattle.refusal.specs.declared.Written.TheVariants.{Bytes}
+use Rattle.std.specs.Prelude.{Ok}
 use Rattle.refusal.specs.Verdict.{accepted}
 use Rattle.refusal.specs.Writes.{Writes}
 use Rattle.refusal.proofs.Writes.{writes-all}
@@ -48,7 +48,7 @@ module _ (out : List ℕ) (place : ℕ) where
 
   pub tail_written : (text tail : List ℕ) (n : ℕ) → place + length text ≤ length out
       → Wrote (take (length out - place) (drop place out)) 0 text tail n
-      → Writes accepted text out place (Bytes n)
+      → Writes accepted text out place (Ok n)
       (take place out ++ (tail ++ drop (length out - place) (drop place out)))
   tail_written text tail n room w =
       writes-all accepted text out place n _ refl (omega (arith, w.next))

@@ -1,64 +1,71 @@
--- The lowest number that passes a test: it passes, it stays the lowest up to every larger bound, and where there is
--- none, none does.
-use Prim.Native.Nat.{ℕ, zero, suc, ◌+◌, ◌≤◌}
-use native.Mathlib.Nat.{eq-or-lt_of_le, le_of_suc-le-suc, not-suc-le-zero}
-use native.Mathlib.Numerals.{add-one}
+-- The lowest number that passes a test: it passes, none below it does, and where there is none, none does.
+use Prim.Native.Nat.{ℕ, zero, suc, ◌+◌, ◌<◌, ◌≤◌}
+use native.Mathlib.Nat.{eq-or-lt_of_le, le_of_suc-le-suc}
 use native.Mathlib.Omega.{arith}
 use mathlib.Core.Path.{◌≡◌, refl, ◌∙◌, sym, subst}
 use mathlib.Core.Bool.{Bool, true, false}
 use mathlib.Core.Logic.{⊎_elim}
-use lib.Dec.{eqb}
-use borrow.Author.Tests.{eqb-true, eqb-false, eq-eqb, ne_eqb}
+use Rattle.std.specs.Prelude.{Option, Some, None}
+use Rattle.std.specs.Option.{MatchOption}
 use Rattle.stretch.proofs.Cases.{by_cases}
 use Rattle.lookup.specs.Lookup.{lowest}
 
+pub by_option : {C : Type 0} (o : Option ℕ) → (o ≡ None → C) → ((i : ℕ) → o ≡ Some i → C) → C
+by_option None none some = none refl
+by_option (Some i) none some = some i refl
+
 module _ (test : ℕ → Bool) where
-  pub lowest-passes : (k : ℕ) → 1 ≤ lowest test k → (test (lowest test k) ≡ true) × (lowest test k ≤ k)
+  pub lowest-passes : (k i : ℕ) → lowest test k ≡ Some i → (test i ≡ true) × (1 ≤ i) × (i ≤ k)
   unfolding lowest
-  lowest-passes zero h = absurd (omega (arith, h))
-  lowest-passes (suc k) h =
-      by_cases (eqb (lowest test k) 0)
+  lowest-passes zero i h = cc
+  lowest-passes (suc k) i h =
+      by_option (lowest test k)
       (λ e.
       by_cases (test (suc k))
-      (λ p. rw (e, p) (p, omega arith))
-      (λ p. absurd (omega (arith, rw (e, p) at h))))
-      (λ e. rw e (let q = lowest-passes k (rw e at h) in (q.0, omega (arith, q.1))))
+      (λ p. let q : suc k ≡ i = cc (rw (e, p) at h) in subst (λ (m : ℕ). (test m ≡ true) × (1 ≤ m) × (m ≤ suc k)) q
+      (p, omega arith, omega arith))
+      (λ p. cc (rw (e, p) at h)))
+      (λ j e. let q = lowest-passes k i (e ∙ (rw e at h)) in (q.0, q.1, omega (arith, q.2)))
 
-  pub lowest-none : (k : ℕ) → lowest test k ≡ 0 → (i : ℕ) → 1 ≤ i → i ≤ k → test i ≡ false
+  pub lowest-none : (k : ℕ) → lowest test k ≡ None → (i : ℕ) → 1 ≤ i → i ≤ k → test i ≡ false
   unfolding lowest
   lowest-none zero h i f l = absurd (omega (arith, f, l))
   lowest-none (suc k) h i f l =
-      by_cases (eqb (lowest test k) 0)
+      by_option (lowest test k)
       (λ e.
       by_cases (test (suc k))
-      (λ p. absurd (omega (arith, rw (e, p) at h)))
+      (λ p. cc (rw (e, p) at h))
       (λ p.
       ⊎_elim
       (λ q. subst (λ (m : ℕ). test m ≡ false) (sym q) p)
-      (λ q. lowest-none k (eqb-true (lowest test k) 0 e) i f (le_of_suc-le-suc q))
+      (λ q. lowest-none k e i f (le_of_suc-le-suc q))
       (eq-or-lt_of_le l)))
-      (λ e. absurd (eqb-false (lowest test k) 0 e (rw e at h)))
+      (λ j e. cc (rw e at h))
 
-  -- none up to k, and the next one fails
-  pub lowest-next : (k : ℕ) → lowest test k ≡ 0 → test (k + 1) ≡ false → lowest test (k + 1) ≡ 0
+  -- none up to k passes
+  lowest-nowhere : (k : ℕ) → ((i : ℕ) → 1 ≤ i → i < k + 1 → test i ≡ false) → lowest test k ≡ None
   unfolding lowest
-  lowest-next k h p = rw (add-one k) (rw (eq-eqb _ _ h, rw (add-one k) at p))
+  lowest-nowhere zero fails = refl
+  lowest-nowhere (suc k) fails =
+      rw (lowest-nowhere k (λ i l h. fails i l (omega arith)), fails (suc k) (omega arith) (omega arith))
 
-  lowest-stays : (k n : ℕ) → k ≤ n → 1 ≤ lowest test k → lowest test n ≡ lowest test k
+  -- i passes, and none below it
+  lowest-here : (k i : ℕ) → 1 ≤ i → i < k + 1 → test i ≡ true → ((j : ℕ) → 1 ≤ j → j < i → test j ≡ false)
+      → lowest test k ≡ Some i
   unfolding lowest
-  lowest-stays zero n h l = absurd (omega (arith, l))
-  lowest-stays (suc k) zero h l = absurd (not-suc-le-zero h)
-  lowest-stays (suc k) (suc n) h l =
+  lowest-here zero i l h p fails = absurd (omega arith)
+  lowest-here (suc k) i l h p fails =
       ⊎_elim
-      (λ e. subst (λ (m : ℕ). lowest test m ≡ lowest test (suc k)) e refl)
-      (λ q.
-      let e = lowest-stays (suc k) n (le_of_suc-le-suc q) l in
-      rw (ne_eqb (lowest test n) 0 (λ z. omega (arith, e, l, z))) e)
-      (eq-or-lt_of_le h)
+      (λ (q : i ≡ suc k).
+      let below : lowest test k ≡ None = lowest-nowhere k (λ j f g. fails j f (omega arith)) in
+      rw (below, subst (λ (m : ℕ). test m ≡ true) q p, q))
+      (λ (q : i < suc k). rw (lowest-here k i l (omega arith) p fails))
+      (eq-or-lt_of_le (omega arith))
 
-  -- none up to k, and the next one passes
-  pub lowest-here : (k n : ℕ) → k + 1 ≤ n → lowest test k ≡ 0 → test (k + 1) ≡ true → lowest test n ≡ k + 1
-  unfolding lowest
-  lowest-here k n l h p =
-      let e : lowest test (k + 1) ≡ k + 1 = rw (add-one k) (rw (eq-eqb _ _ h, rw (add-one k) at p)) in
-      lowest-stays (k + 1) n l (omega (arith, e)) ∙ e
+  -- what an iterator's `find` among the numbers from 1 to k answers
+  pub lowest-from_find : (k : ℕ) (r : Option ℕ)
+      → MatchOption r ((i : ℕ) → 1 ≤ i → i < k + 1 → test i ≡ false)
+      (λ i. (1 ≤ i) × (i < k + 1) × (test i ≡ true) × ((j : ℕ) → 1 ≤ j → j < i → test j ≡ false))
+      → r ≡ lowest test k
+  lowest-from_find k None h = sym (lowest-nowhere k h)
+  lowest-from_find k (Some i) h = sym (lowest-here k i h.0 h.1 h.2 h.3)

@@ -1,118 +1,78 @@
-// How a normal form is found among the records. Its replacement lies in three stretches.
-ghost use Rattle.std.specs.Prelude.{◌≡◌, true, [], ◌∷◌, ◌++◌, ◌+◌, ◌≤◌, eqb, length};
+// How a normal form is found among the records.
+ghost use Rattle.std.specs.Prelude.{◌≡◌, true, [], ◌∷◌, ◌≤◌, eqb, IfSome};
 ghost use Rattle.stretch.specs.Same.{same};
+ghost use Rattle.stretch.specs.Three.{whole};
 ghost use Rattle.image.specs.Fields.{issued, start_of, end_of, status_of, replacement_of};
 ghost use Rattle.image.specs.Formed.{all, well_formed};
 ghost use Rattle.image.specs.Header.{Header};
+ghost use Rattle.image.specs.Statuses.{code_of};
 ghost use Rattle.lookup.specs.Lookup.{asked, holds, lowest_holding};
 
 use image::{
-    END_IN_RECORD, ISSUED_AT, LENGTH_IN_RECORD, OFFSET_IN_RECORD, POOL_OFFSET_AT, STATUS_IN_RECORD,
-    read_number, record_at,
+    END_IN_RECORD, ISSUED_AT, LENGTH_IN_RECORD, OFFSET_IN_RECORD, POOL_OFFSET_AT, START_IN_RECORD,
+    STATUS_IN_RECORD, Status, read_field, read_number,
 };
 use normal_form_calls::Form;
-use stretch::equal;
+use stretch::{Three, equal};
 
-// Whether a stretch is the three, one after the other.
-fn equal_three(s: &[u8], a: &[u8], b: &[u8], c: &[u8]) -> bool
-    requires { length s.now ≡ length a.now + (length b.now + length c.now) }
-    ensures { result ≡ same s.now (a.now ++ (b.now ++ c.now)) }
+// Whether a stretch is the text. Its last part is compared first, since that tells another length at once.
+fn is_text(s: &[u8], text: Three) -> bool
+    ensures { result ≡ same s.now (whole text.entry) }
 {
-    let second = a.len();
-    let third = second + b.len();
-    if !equal(&s[..second], a) {
+    let Some((first, rest)) = s.split_at_checked(text.first.len()) else {
         return false;
-    }
-    if !equal(&s[second..third], b) {
+    };
+    let Some((middle, last)) = rest.split_at_checked(text.middle.len()) else {
         return false;
-    }
-    equal(&s[third..], c)
+    };
+    equal(last, text.last) && equal(middle, text.middle) && equal(first, text.first)
 }
 
 // Whether a number has this status, start and end.
-fn holds_numbers(image: &[u8], number: usize, status: usize, start: u64, end: u64) -> bool
+fn holds_numbers(image: &[u8], number: usize, status: Status, start: u64, end: u64) -> bool
     requires header { Header image.now }
     requires le_number { (1 ≤ number) × (number ≤ issued image.now) }
-    ensures { result ≡ all (eqb (status_of image.now number) status
+    ensures { result ≡ all (eqb (status_of image.now number) (code_of status)
         ∷ eqb (start_of image.now number) start ∷ eqb (end_of image.now number) end ∷ []) }
 {
-    let at = record_at(number);
-    if read_number(image, at + STATUS_IN_RECORD) != status {
-        return false;
-    }
-    if read_number(image, at) as u64 != start {
-        return false;
-    }
-    read_number(image, at + END_IN_RECORD) as u64 == end
+    let stored_status = read_field(image, number, STATUS_IN_RECORD);
+    let stored_start = read_field(image, number, START_IN_RECORD) as u64;
+    let stored_end = read_field(image, number, END_IN_RECORD) as u64;
+    let asked_status = usize::from(status);
+    stored_status == asked_status && stored_start == start && stored_end == end
 }
 
-// Whether a number's replacement is the three stretches.
-fn holds_replacement(
-    image: &[u8],
-    number: usize,
-    residues: u64,
-    a: &[u8],
-    b: &[u8],
-    c: &[u8],
-) -> bool
+// Whether a number's replacement is the text.
+fn holds_replacement(image: &[u8], number: usize, text: Three) -> bool
     requires header { Header image.now }
     requires image_value { well_formed image.now ≡ true }
     requires le_number { (1 ≤ number) × (number ≤ issued image.now) }
-    requires residues_value { residues ≡ length a.now + (length b.now + length c.now) }
-    ensures { result ≡ same (replacement_of image.now number) (a.now ++ (b.now ++ c.now)) }
+    ensures { result ≡ same (replacement_of image.now number) (whole text.entry) }
 {
-    let at = record_at(number);
-    let length = read_number(image, at + LENGTH_IN_RECORD);
-    if length as u64 != residues {
-        return false;
-    }
-    let from = read_number(image, POOL_OFFSET_AT) + read_number(image, at + OFFSET_IN_RECORD);
-    equal_three(&image[from..from + length], a, b, c)
+    let length = read_field(image, number, LENGTH_IN_RECORD);
+    let offset = read_field(image, number, OFFSET_IN_RECORD);
+    let from = read_number(image, POOL_OFFSET_AT) + offset;
+    is_text(&image[from..from + length], text)
 }
 
-fn holds_form(
-    image: &[u8],
-    number: usize,
-    status: usize,
-    form: Form,
-    a: &[u8],
-    b: &[u8],
-    c: &[u8],
-) -> bool
+fn holds_form(image: &[u8], number: usize, status: Status, form: Form, text: Three) -> bool
     requires header { Header image.now }
     requires image_value { well_formed image.now ≡ true }
     requires le_number { (1 ≤ number) × (number ≤ issued image.now) }
-    requires length_value { form.length ≡ length a.now + (length b.now + length c.now) }
-    ensures { result ≡ holds image.now status (asked form a.now b.now c.now) number }
+    ensures { result ≡ holds image.now (code_of status) (asked form (whole text.entry)) number }
 {
-    if !holds_numbers(image, number, status, form.start, form.end) {
-        return false;
-    }
-    holds_replacement(image, number, form.length, a, b, c)
+    holds_numbers(image, number, status, form.start, form.end)
+        && holds_replacement(image, number, text)
 }
 
-// The lowest number of that status that holds the form, or 0 where none does.
-pub fn lowest_holding(
-    image: &[u8],
-    status: usize,
-    form: Form,
-    a: &[u8],
-    b: &[u8],
-    c: &[u8],
-) -> usize
+// The lowest number of that status that holds the form with this replacement.
+pub fn lowest_holding(image: &[u8], status: Status, form: Form, text: Three) -> Option<usize>
     requires header { Header image.now }
     requires image_value { well_formed image.now ≡ true }
-    requires length_value { form.length ≡ length a.now + (length b.now + length c.now) }
-    ensures { (result ≡ lowest_holding image.now status
-        (asked form a.now b.now c.now)) × (result ≤ issued image.now) }
+    ensures lowest { result ≡ lowest_holding image.now (code_of status) (asked form (whole text.entry)) }
+    ensures le_number { IfSome result (λ number. (1 ≤ number) × (number ≤ issued image.now)) }
 {
-    let issued = read_number(image, ISSUED_AT);
-    let mut number = 0;
-    while number < issued {
-        number += 1;
-        if holds_form(image, number, status, form, a, b, c) {
-            return number;
-        }
-    }
-    0
+    (1..read_number(image, ISSUED_AT) + 1).find(|&number| holds_form(
+        image, number, status, form, text,
+    ))
 }

@@ -4,9 +4,12 @@
 // specs/Moved.antt defines them, and proofs/Ends.antt has their laws.
 #![tactic(auto)]
 
+ghost use Rattle.std.specs.Prelude.{◌++◌, Some, decimal, codes};
+
 mod sides;
 
 pub use sides::{moved_of, still};
+use std::fmt;
 
 // Of one side of the interval: the residues by which it widened past the one given, and those by which it
 // shrank.
@@ -23,4 +26,26 @@ pub struct Side {
 pub struct Moved {
     pub left: Side,
     pub right: Side,
+}
+
+impl fmt::Display for Side {
+    ghost output = { λ s. Some (decimal s.widened ++ (codes " " ++ decimal s.shrunk)) };
+
+    fn fmt<W: fmt::Write>(&self, f: &mut fmt::Formatter<W>) -> fmt::Result {
+        let widened = self.widened;
+        let shrunk = self.shrunk;
+        write!(f, "{widened} {shrunk}")
+    }
+}
+
+// The left side, then the right one.
+impl fmt::Display for Moved {
+    ghost output = { λ m. Some ((decimal m.left.widened ++ (codes " " ++ decimal m.left.shrunk))
+        ++ (codes " " ++ (decimal m.right.widened ++ (codes " " ++ decimal m.right.shrunk)))) };
+
+    fn fmt<W: fmt::Write>(&self, f: &mut fmt::Formatter<W>) -> fmt::Result {
+        let left = self.left;
+        let right = self.right;
+        write!(f, "{left} {right}")
+    }
 }

@@ -3,15 +3,15 @@ ghost use Rattle.std.specs.Prelude.{◌≡◌};
 ghost use Rattle.moved.specs.Moved.{side, moved_in, still as still_moved};
 
 use super::{Moved, Side};
-use normal_form::{Stretches, beyond};
+use normal_form::Stretches;
 
 // How far `a` lies beyond `b`, and `b` beyond `a`.
 fn side_of(a: usize, b: usize) -> Side
     ensures { result ≡ side a b }
 {
     Side {
-        widened: beyond(a, b) as u64,
-        shrunk: beyond(b, a) as u64,
+        widened: a.saturating_sub(b) as u64,
+        shrunk: b.saturating_sub(a) as u64,
     }
 }
 

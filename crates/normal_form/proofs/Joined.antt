@@ -37,10 +37,6 @@ module _ (r x : List ℕ) (w : Stretches) (f : Fits r x w) where
   length-joined =
       sym (length_three (reference_before r w) (replacement_kept x w) (reference_after r w) _ (sym three-long))
 
-  pub pieces-long : {a b c : List ℕ} → a ≡ reference_before r w → b ≡ replacement_kept x w → c ≡ reference_after r w
-      → length a + (length b + length c) ≡ joined_length w
-  pieces-long first second third = rw (first, second, third) three-long
-
 module _ (a b c : List ℕ) where
   pub foreign-first : foreign a < length a → foreign a ≡ foreign (a ++ (b ++ c))
   foreign-first h = sym (first_outside-within residue a (b ++ c) h)

@@ -8,7 +8,8 @@ use Rattle.normal_form.specs.declared.Outline.{Outline}
 use Rattle.normal_form.specs.declared.Stretches.{Stretches}
 use Rattle.normal_form.specs.Form.{Allele, Normal, altered, outline}
 
--- stretches that lie within the reference and the replacement, on their sides of the spot given
+-- stretches that lie within the reference and the replacement, on their sides of the spot given; a clause and no type's
+-- fact, since the laws compute with the stretches alone, and the replacement is read in two ways
 pub record Fits (r x : List ℕ) (w : Stretches) : Type 0 where
   pub allele : Allele r w.given.start w.given.end x
   pub before : w.left ≤ w.given.start

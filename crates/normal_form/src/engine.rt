@@ -1,23 +1,14 @@
 // The normal form of an allele that has passed its tests. It looks at what is trimmed and rolled, and
 // at nothing else of the reference.
-ghost use Rattle.std.specs.Prelude.{◌≡◌, ◌-◌, ◌≤◌, max, length};
+ghost use Rattle.std.specs.Prelude.{◌≡◌, ◌-◌, ◌≤◌, length, map};
 ghost use Rattle.normal_form.specs.Form.{Allele};
 ghost use Rattle.normal_form.specs.Stretches.{spread, as_given, stretches_of};
 ghost use Rattle.normal_form.specs.Inner.{Agrees, agreed_outline, agreed_stretches};
 
-use super::lengths::{beyond, outline_of};
+use super::lengths::outline_of;
 use super::roll::{roll_left, roll_right};
 use super::{Interval, Kind, Outline, Stretches};
-use stretch::{common_prefix, common_suffix, smaller};
-
-fn larger(a: usize, b: usize) -> usize
-    ensures { result ≡ max a b }
-{
-    if a < b {
-        return b;
-    }
-    a
-}
+use stretch::{AsGiven, Back, Front, Reading, agreed};
 
 // The stretches of a normal form of that outline, on a reference of n residues.
 fn lay(outline: Outline, n: usize, given: usize, start: usize, end: usize) -> Stretches
@@ -32,10 +23,10 @@ fn lay(outline: Outline, n: usize, given: usize, start: usize, end: usize) -> St
         start: a,
         end: n - b,
         given: Interval { start, end },
-        left: smaller(a, start),
-        from: beyond(a, start),
-        to: given - beyond(b, n - end),
-        right: larger(n - b, end),
+        left: a.min(start),
+        from: a.saturating_sub(start),
+        to: given - b.saturating_sub(n - end),
+        right: (n - b).max(end),
     }
 }
 
@@ -100,12 +91,25 @@ pub fn form_by_agreement(
     justify(reference, start, end, given, ahead, behind)
 }
 
+// The normal form of an allele whose replacement is read so.
+pub fn normalise_read<R: Reading>(
+    reference: &[u8],
+    start: usize,
+    end: usize,
+    replacement: &[u8],
+) -> Stretches
+    requires { Allele reference.now start end (map R.reads replacement.now) }
+    ensures { result ≡ stretches_of reference.now start end (map R.reads replacement.now) }
+{
+    let ahead = agreed::<Front, R>(&reference[start..], replacement);
+    let behind = agreed::<Back, R>(&reference[0..end], replacement);
+    form_by_agreement(reference, start, end, replacement.len(), ahead, behind)
+}
+
 // The normal form of an allele.
 pub fn normalise(reference: &[u8], start: usize, end: usize, replacement: &[u8]) -> Stretches
     requires { Allele reference.now start end replacement.now }
     ensures { result ≡ stretches_of reference.now start end replacement.now }
 {
-    let ahead = common_prefix(&reference[start..], replacement);
-    let behind = common_suffix(&reference[0..end], replacement);
-    form_by_agreement(reference, start, end, replacement.len(), ahead, behind)
+    normalise_read::<AsGiven>(reference, start, end, replacement)
 }

@@ -1,30 +1,19 @@
 // Document 01's a, b and kind, by lengths alone.
-ghost use Rattle.std.specs.Prelude.{◌≡◌, ◌-◌, min};
+ghost use Rattle.std.specs.Prelude.{◌≡◌, min};
 ghost use Rattle.normal_form.specs.Form.{within, kind_in, outline_in};
 
 use super::{Kind, Outline};
-use stretch::smaller;
-
-// a - b, or 0 where b is the larger.
-pub fn beyond(a: usize, b: usize) -> usize
-    ensures { result ≡ a - b }
-{
-    if a < b {
-        return 0;
-    }
-    a - b
-}
 
 fn within_room(k: usize, q: usize, p: usize) -> usize
     ensures { result ≡ within k q p }
 {
-    smaller(p, beyond(k, q))
+    p.min(k.saturating_sub(q))
 }
 
 fn kind_of(k: usize, p: usize, q: usize) -> Kind
     ensures { result ≡ kind_in k p q }
 {
-    if q < beyond(k, p) {
+    if q < k.saturating_sub(p) {
         return Kind::Substitution;
     }
     Kind::Indel
@@ -34,7 +23,7 @@ fn kind_of(k: usize, p: usize, q: usize) -> Kind
 pub fn outline_of(n: usize, m: usize, p: usize, q: usize) -> Outline
     ensures { result ≡ outline_in (min n m) p q }
 {
-    let k = smaller(n, m);
+    let k = n.min(m);
     Outline {
         kind: kind_of(k, p, q),
         a: within_room(k, q, p),

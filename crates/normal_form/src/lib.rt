@@ -12,9 +12,11 @@ mod pieces;
 mod roll;
 mod three;
 
-pub use engine::{form_by_agreement, normalise};
-pub use lengths::{beyond, outline_of};
-pub use pieces::{joined_length, reference_after, reference_before, replacement_kept};
+pub use engine::{form_by_agreement, normalise, normalise_read};
+pub use lengths::outline_of;
+pub use pieces::{
+    joined_length, joined_three, reference_after, reference_before, replacement_kept,
+};
 pub use three::first_foreign_of;
 
 #[derive(Clone, Copy)]

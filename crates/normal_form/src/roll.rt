@@ -1,5 +1,6 @@
 // How far the sequences before and after the change agree on either side of its spot. The flanks are
-// lent as stretches of the reference.
+// lent as stretches of the reference. One function over `stretch::End` is no plainer than these two: `End`
+// would need a third method, what is left of a stretch past so many bytes, with two bodies as long as theirs.
 ghost use Rattle.std.specs.Prelude.{◌≡◌, ◌≤◌, length};
 ghost use Rattle.normal_form.specs.Inner.{rolls_right, rolls_left};
 

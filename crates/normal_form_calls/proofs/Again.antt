@@ -2,24 +2,25 @@
 -- normal form.
 use Prim.Native.Nat.{ℕ, ◌+◌, ◌≤◌}
 use native.Mathlib.Omega.{arith}
-use mathlib.Core.Path.{◌≡◌, refl, ap}
+use mathlib.Core.Path.{◌≡◌, ap}
 use mathlib.Core.Bool.{false}
 use mathlib.Core.List.{List, [], ◌∷◌}
 use lib.Dec.{ltb}
 use lib.ListN.{length}
 use borrow.Author.Tests.{le-ltb, ltb-false}
+use Rattle.std.specs.Prelude.{Ok}
 use Rattle.stretch.specs.Part.{part}
 use Rattle.stretch.proofs.Over.{part-over}
 use Rattle.refusal.specs.Limits.{reference_limit, replacement_limit}
-use Rattle.refusal.specs.Verdict.{Ground, Verdict, accepted, refused, verdict, tell}
+use Rattle.refusal.specs.Verdict.{Ground, Verdict, accepted, verdict}
 use Rattle.refusal.specs.Grounds.{output_too_short}
-use Rattle.refusal.proofs.Verdict.{none-holds, verdict-fewer, verdict-later}
+use Rattle.refusal.proofs.Verdict.{none-holds, verdict-fewer, verdict-later, told-accepted}
 use Rattle.alphabets.specs.Alphabets.{foreign, foreign_normal}
 use Rattle.normal_form.specs.Form.{Normal, normal}
 use Rattle.normal_form.proofs.Laws.{normal-ordered, normal-inside, normal-normal}
 use Rattle.moved.specs.declared.Moved.{Moved}
 use Rattle.normal_form_calls.specs.declared.Form.{Form}
-use Rattle.normal_form_calls.specs.declared.Normalised.TheVariants.{Accepted as Formed, Refused as Unformed}
+use Rattle.normal_form_calls.specs.declared.Formed.{Formed}
 use Rattle.normal_form_calls.specs.Calls.{given_grounds, form_grounds, normal_grounds, numbers_of, Forms}
 use Rattle.normal_form_calls.proofs.Answers.{clean-allele}
 
@@ -46,29 +47,24 @@ module _ (r : List ℕ) (start end : ℕ) (x : List ℕ) (v : verdict (form_grou
         normal-clean,
       )
 
--- what a call tells that answers a form
-formed-as : (v : Verdict) (form said : Form) (m n : Moved) → Formed form m ≡ tell Unformed v (Formed said n)
-    → (v ≡ accepted) × (form ≡ said)
-formed-as accepted form said m n h = (refl, cc)
-formed-as (refused q) form said m n h = (cc, cc)
-
 pub record FormWritten (v : Verdict) (f : Normal) (place : ℕ) (form : Form) (left : List ℕ) : Type 0 where
   pub passed : v ≡ accepted
   pub numbers : form ≡ numbers_of f
   pub stands : part left place (place + form.length) ≡ f.replacement
 
-pub form-written : (gs : List Ground) (f : Normal) (m : Moved) (out : List ℕ) (place : ℕ) (form : Form) (by : Moved)
+pub form-written : (gs : List Ground) (f : Normal) (m : Moved) (out : List ℕ) (place : ℕ) (a : Formed)
     (left : List ℕ) → (verdict gs ≡ accepted → place + length f.replacement ≤ length out)
-    → Forms (verdict gs) f m out place (Formed form by) left → FormWritten (verdict gs) f place form left
-form-written gs f m out place form by left room p =
-    let t = formed-as (verdict gs) form (numbers_of f) by m p.answers in
-    let long : form.length ≡ length f.replacement = ap (λ (g : Form). g.length) t.1 in
+    → Forms (verdict gs) f m out place (Ok a) left → FormWritten (verdict gs) f place a.form left
+form-written gs f m out place a left room p =
+    let t = told-accepted (verdict gs) (record { form = numbers_of f; moved = m }) a p.answers in
+    let numbers : a.form ≡ numbers_of f = ap (λ (b : Formed). b.form) t.1 in
+    let long : a.form.length ≡ length f.replacement = ap (λ (g : Form). g.length) numbers in
     record {
       passed = t.0;
-      numbers = t.1;
+      numbers = numbers;
       stands =
           rw (p.leaves, t.0)
-          (part-over out place f.replacement form.length (omega (arith, room t.0)) long);
+          (part-over out place f.replacement a.form.length (omega (arith, room t.0)) long);
     }
 
 -- 6 is passed where all are

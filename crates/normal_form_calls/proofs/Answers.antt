@@ -1,19 +1,20 @@
 -- What the answers of the calls tell: of the allele, of where its form lies, and of the tests that follow.
 use Prim.Native.Nat.{ℕ, ◌+◌, ◌<◌, ◌≤◌}
 use native.Mathlib.Omega.{arith}
-use mathlib.Core.Path.{◌≡◌, refl, ap, subst}
+use mathlib.Core.Path.{◌≡◌, ap, subst}
 use mathlib.Core.Bool.{true, false}
 use mathlib.Core.List.{List, [], ◌∷◌}
 use lib.Dec.{ltb}
 use lib.ListN.{length}
 use borrow.Author.Tests.{lt-ltb, le-ltb, ltb-false}
+use Rattle.std.specs.Prelude.{Result, Ok, Err}
 use Rattle.stretch.specs.Over.{over}
 use Rattle.refusal.specs.declared.Refusal.{Refusal}
-use Rattle.refusal.specs.declared.Outcome.TheVariants.{Accepted as LetThrough, Refused as TurnedAway}
+use Rattle.refusal.specs.declared.Reason.TheVariants.{ForeignNormalByte, OutputTooShort}
 use Rattle.refusal.specs.Limits.{reference_limit, replacement_limit}
-use Rattle.refusal.specs.Verdict.{Verdict, accepted, refused, verdict, tell}
+use Rattle.refusal.specs.Verdict.{accepted, refused, verdict}
 use Rattle.refusal.proofs.Verdict.{none-holds, verdict-first, verdict-fewer, verdict-then}
-use Rattle.refusal.proofs.Verdict.{outcome-accepted, outcome-refused}
+use Rattle.refusal.proofs.Verdict.{told-accepted, told-refused}
 use Rattle.refusal.specs.Grounds.{output_too_short}
 use Rattle.alphabets.specs.Alphabets.{foreign, foreign_normal}
 use Rattle.normal_form.specs.declared.Stretches.{Stretches}
@@ -23,23 +24,10 @@ use Rattle.normal_form.proofs.Join.{stretches-fit, stretches-join}
 use Rattle.normal_form.proofs.Joined.{length-joined}
 use Rattle.moved.specs.Moved.{moved_by, moved_in}
 use Rattle.moved.proofs.Ends.{stretches-moved}
-use Rattle.normal_form_calls.specs.declared.Located.{Located}
-use Rattle.normal_form_calls.specs.declared.Located.TheVariants.{Accepted, Refused}
-use Rattle.normal_form_calls.specs.declared.Normalised.{Normalised}
-use Rattle.normal_form_calls.specs.declared.Normalised.TheVariants.{Accepted as Formed, Refused as Unformed}
+use Rattle.normal_form_calls.specs.declared.Formed.{Formed}
 use Rattle.normal_form_calls.specs.Calls.{given_grounds, form_grounds, normal_grounds, given_answer, located}
 use Rattle.normal_form_calls.specs.Calls.{located_clean}
 use Rattle.normal_form_calls.specs.Calls.{cleanly, form_of, Forms, Lays, Normalises}
-
-pub tell-accepted : (v : Verdict) (w u : Stretches) → Accepted w ≡ tell Refused v (Accepted u) → (v ≡ accepted)
-    × (w ≡ u)
-tell-accepted accepted w u h = (refl, cc)
-tell-accepted (refused r) w u h = (cc, cc)
-
-pub tell-refused : (v : Verdict) (why : Refusal) (u : Stretches) → Refused why ≡ tell Refused v (Accepted u)
-    → v ≡ refused why
-tell-refused accepted why u h = cc
-tell-refused (refused r) why u h = cc
 
 -- 5 and 6 alone, of stretches that lie in range, by the length that the code sums up
 module _ (r x : List ℕ) (w : Stretches) (f : Fits r x w) where
@@ -47,22 +35,22 @@ module _ (r x : List ℕ) (w : Stretches) (f : Fits r x w) where
   long = length-joined r x w f
 
   pub clean-refuses : (k : ℕ) → k ≡ foreign (joined r x w) → k < joined_length w
-      → ◌≡◌ {A = Located} (Refused (record { number = 5; value = k })) (cleanly r x w)
+      → Err (record { reason = ForeignNormalByte; value = k }) ≡ cleanly r x w
   clean-refuses k e l = rw (← e, lt-ltb k (length (joined r x w)) (omega (arith, long)))
 
   pub clean-accepts : (k : ℕ) → k ≡ foreign (joined r x w) → joined_length w ≤ k
-      → ◌≡◌ {A = Located} (Accepted w) (cleanly r x w)
+      → Ok w ≡ cleanly r x w
   clean-accepts k e l = rw (← e, le-ltb k (length (joined r x w)) (omega (arith, long)))
 
   module _ (out : List ℕ) (place : ℕ) where
     pub lays-nothing : ltb (length out) (place + joined_length w) ≡ true
-        → Lays r x w out place (Unformed (record { number = 6; value = joined_length w })) out
+        → Lays r x w out place (Err (record { reason = OutputTooShort; value = joined_length w })) out
     lays-nothing t =
         let v : ltb (length out) (place + length (joined r x w)) ≡ true = rw long at t in
         record { answers = rw (v, long); leaves = rw v }
 
     pub lays_all : ltb (length out) (place + joined_length w) ≡ false
-        → Lays r x w out place (Formed (form_of w) (moved_in w)) (over out place (joined r x w))
+        → Lays r x w out place (Ok (record { form = form_of w; moved = moved_in w })) (over out place (joined r x w))
     lays_all t =
         let v : ltb (length out) (place + length (joined r x w)) ≡ false = rw long at t in
         record { answers = rw (v, long); leaves = rw v }
@@ -79,44 +67,44 @@ module _ (r : List ℕ) (start end : ℕ) (x : List ℕ) where
         replacement = ltb-false replacement_limit (length x) (passed 1);
       }
 
-  pub given-accepted : LetThrough ≡ given_answer r start end x → Allele r start end x
-  given-accepted e = given-allele (outcome-accepted _ e)
+  pub given-accepted : Ok tt ≡ given_answer r start end x → Allele r start end x
+  given-accepted e = given-allele (told-accepted _ _ _ e).0
 
   -- the form is located where they let it through
-  pub given-located : LetThrough ≡ given_answer r start end x
-      → ◌≡◌ {A = Located} (Accepted (stretches_of r start end x)) (located r start end x)
-  given-located e = rw (outcome-accepted (verdict (given_grounds r start end x)) e)
+  pub given-located : Ok tt ≡ given_answer r start end x
+      → Ok (stretches_of r start end x) ≡ located r start end x
+  given-located e = rw (told-accepted (verdict (given_grounds r start end x)) tt tt e).0
 
-  pub given-refused : (why : Refusal) → TurnedAway why ≡ given_answer r start end x
-      → ◌≡◌ {A = Located} (Refused why) (located r start end x)
-  given-refused why e = rw (outcome-refused (verdict (given_grounds r start end x)) why e)
+  pub given-refused : (why : Refusal) → Err why ≡ given_answer r start end x
+      → Err why ≡ located r start end x
+  given-refused why e = rw (told-refused (verdict (given_grounds r start end x)) tt why e)
 
   -- and is the normal form
-  pub located_fits : (w : Stretches) → Accepted w ≡ located r start end x → Fits r x w
+  pub located_fits : (w : Stretches) → Ok w ≡ located r start end x → Fits r x w
   located_fits w e =
-      let t = tell-accepted (verdict (given_grounds r start end x)) w (stretches_of r start end x) e in
+      let t = told-accepted (verdict (given_grounds r start end x)) (stretches_of r start end x) w e in
       rw t.1 (stretches-fit r start end x (given-allele t.0))
 
-  pub located-form : (w : Stretches) → Accepted w ≡ located r start end x → form_in r x w ≡ normal r start end x
+  pub located-form : (w : Stretches) → Ok w ≡ located r start end x → form_in r x w ≡ normal r start end x
   located-form w e =
-      let t = tell-accepted (verdict (given_grounds r start end x)) w (stretches_of r start end x) e in
+      let t = told-accepted (verdict (given_grounds r start end x)) (stretches_of r start end x) w e in
       rw t.1 (stretches-join r start end x (given-allele t.0))
 
   -- 5 after 1 to 4
-  pub clean-located : (w : Stretches) → Accepted w ≡ located r start end x → cleanly r x w ≡ located_clean r start end x
+  pub clean-located : (w : Stretches) → Ok w ≡ located r start end x → cleanly r x w ≡ located_clean r start end x
   unfolding form_grounds
   clean-located w e =
-      let t = tell-accepted (verdict (given_grounds r start end x)) w (stretches_of r start end x) e in
+      let t = told-accepted (verdict (given_grounds r start end x)) (stretches_of r start end x) w e in
       let j : joined r x w ≡ (normal r start end x).replacement =
       ap (λ (f : Normal). f.replacement) (located-form w e) in
       rw (j, verdict-then (given_grounds r start end x) _ t.0, t.1)
 
-  pub refused-located : (why : Refusal) → Refused why ≡ located r start end x
-      → Refused why ≡ located_clean r start end x
+  pub refused-located : (why : Refusal) → Err why ≡ located r start end x
+      → Err why ≡ located_clean r start end x
   unfolding form_grounds
   refused-located why e =
       rw (verdict-first (given_grounds r start end x) _ why
-      (tell-refused (verdict (given_grounds r start end x)) why (stretches_of r start end x) e))
+      (told-refused (verdict (given_grounds r start end x)) (stretches_of r start end x) why e))
 
   -- 6 after 1 to 5
   pub clean-allele : verdict (form_grounds r start end x) ≡ accepted → Allele r start end x
@@ -124,25 +112,25 @@ module _ (r : List ℕ) (start end : ℕ) (x : List ℕ) where
   clean-allele v = given-allele
       (verdict-fewer (given_grounds r start end x) (foreign_normal (normal r start end x).replacement ∷ []) v)
 
-  pub clean-accepted : (w : Stretches) → Accepted w ≡ located_clean r start end x
+  pub clean-accepted : (w : Stretches) → Ok w ≡ located_clean r start end x
       → (verdict (form_grounds r start end x) ≡ accepted) × (w ≡ stretches_of r start end x)
-  clean-accepted w e = tell-accepted (verdict (form_grounds r start end x)) w (stretches_of r start end x) e
+  clean-accepted w e = told-accepted (verdict (form_grounds r start end x)) (stretches_of r start end x) w e
 
-  pub clean-refused : (why : Refusal) → Refused why ≡ located_clean r start end x
+  pub clean-refused : (why : Refusal) → Err why ≡ located_clean r start end x
       → verdict (form_grounds r start end x) ≡ refused why
-  clean-refused why e = tell-refused (verdict (form_grounds r start end x)) why (stretches_of r start end x) e
+  clean-refused why e = told-refused (verdict (form_grounds r start end x)) (stretches_of r start end x) why e
 
-  pub clean-fits : (w : Stretches) → Accepted w ≡ located_clean r start end x → Fits r x w
+  pub clean-fits : (w : Stretches) → Ok w ≡ located_clean r start end x → Fits r x w
   clean-fits w e = let t = clean-accepted w e in rw t.1 (stretches-fit r start end x (clean-allele t.0))
 
-  pub clean-form : (w : Stretches) → Accepted w ≡ located_clean r start end x → form_in r x w ≡ normal r start end x
+  pub clean-form : (w : Stretches) → Ok w ≡ located_clean r start end x → form_in r x w ≡ normal r start end x
   clean-form w e = let t = clean-accepted w e in rw t.1 (stretches-join r start end x (clean-allele t.0))
 
-  pub clean-moved : (w : Stretches) → Accepted w ≡ located_clean r start end x → moved_in w ≡ moved_by r start end x
+  pub clean-moved : (w : Stretches) → Ok w ≡ located_clean r start end x → moved_in w ≡ moved_by r start end x
   clean-moved w e = let t = clean-accepted w e in rw t.1 (stretches-moved r start end x (clean-allele t.0))
 
-  pub lays-normal : (w : Stretches) (out : List ℕ) (place : ℕ) (answer : Normalised) (left : List ℕ)
-      → Accepted w ≡ located_clean r start end x → Lays r x w out place answer left
+  pub lays-normal : (w : Stretches) (out : List ℕ) (place : ℕ) (answer : Result Formed Refusal) (left : List ℕ)
+      → Ok w ≡ located_clean r start end x → Lays r x w out place answer left
       → Normalises r start end x out place answer left
   unfolding normal_grounds
   lays-normal w out place answer left e p =
@@ -153,18 +141,19 @@ module _ (r : List ℕ) (start end : ℕ) (x : List ℕ) where
       (moved_by r start end x) out place answer left)
       (clean-form w e) (rw (clean-moved w e) at p))
 
-  pub formed : (w : Stretches) (out : List ℕ) (place : ℕ) → Accepted w ≡ located_clean r start end x
+  pub formed : (w : Stretches) (out : List ℕ) (place : ℕ) → Ok w ≡ located_clean r start end x
       → ltb (length out) (place + joined_length w) ≡ false
-      → Normalises r start end x out place (Formed (form_of w) (moved_in w)) (over out place (joined r x w))
+      → Normalises r start end x out place (Ok (record { form = form_of w; moved = moved_in w }))
+      (over out place (joined r x w))
   formed w out place e t = lays-normal w out place _ _ e (lays_all r x w (clean-fits w e) out place t)
 
-  pub no_room : (w : Stretches) (out : List ℕ) (place : ℕ) → Accepted w ≡ located_clean r start end x
+  pub no_room : (w : Stretches) (out : List ℕ) (place : ℕ) → Ok w ≡ located_clean r start end x
       → ltb (length out) (place + joined_length w) ≡ true
-      → Normalises r start end x out place (Unformed (record { number = 6; value = joined_length w })) out
+      → Normalises r start end x out place (Err (record { reason = OutputTooShort; value = joined_length w })) out
   no_room w out place e t = lays-normal w out place _ _ e (lays-nothing r x w (clean-fits w e) out place t)
 
-  pub normalises-refused : (why : Refusal) (out : List ℕ) (place : ℕ) → Refused why ≡ located_clean r start end x
-      → Normalises r start end x out place (Unformed why) out
+  pub normalises-refused : (why : Refusal) (out : List ℕ) (place : ℕ) → Err why ≡ located_clean r start end x
+      → Normalises r start end x out place (Err why) out
   unfolding normal_grounds
   normalises-refused why out place e =
       let v = verdict-first (form_grounds r start end x)

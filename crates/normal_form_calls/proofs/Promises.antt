@@ -2,19 +2,22 @@
 use Prim.Native.Nat.{ℕ}
 use mathlib.Core.Path.{◌≡◌}
 use mathlib.Core.List.{List}
+use Rattle.std.specs.Prelude.{Result}
+use Rattle.refusal.specs.declared.Refusal.{Refusal}
 use Rattle.refusal.proofs.Unique.{one_answer}
-use Rattle.normal_form_calls.specs.declared.Located.{Located}
-use Rattle.normal_form_calls.specs.declared.Normalised.{Normalised}
+use Rattle.normal_form.specs.declared.Stretches.{Stretches}
+use Rattle.normal_form_calls.specs.declared.Formed.{Formed}
 use Rattle.normal_form_calls.specs.Calls.{located, located_clean, Normalises}
 
 module _ (r : List ℕ) (start end : ℕ) (x : List ℕ) where
-  pub normalises-once : (out : List ℕ) (place : ℕ) (a₁ a₂ : Normalised) (l₁ l₂ : List ℕ)
+  pub normalises-once : (out : List ℕ) (place : ℕ) (a₁ a₂ : Result Formed Refusal) (l₁ l₂ : List ℕ)
       → Normalises r start end x out place a₁ l₁ → Normalises r start end x out place a₂ l₂ → (a₁ ≡ a₂) × (l₁ ≡ l₂)
   normalises-once out place a₁ a₂ l₁ l₂ p q = (one_answer p.answers q.answers, one_answer p.leaves q.leaves)
 
-  pub locates-once : (a₁ a₂ : Located) → a₁ ≡ located r start end x → a₂ ≡ located r start end x → a₁ ≡ a₂
+  pub locates-once : (a₁ a₂ : Result Stretches Refusal) → a₁ ≡ located r start end x → a₂ ≡ located r start end x
+      → a₁ ≡ a₂
   locates-once a₁ a₂ p q = one_answer p q
 
-  pub locates-clean-once : (a₁ a₂ : Located) → a₁ ≡ located_clean r start end x → a₂ ≡ located_clean r start end x
-      → a₁ ≡ a₂
+  pub locates-clean-once : (a₁ a₂ : Result Stretches Refusal) → a₁ ≡ located_clean r start end x
+      → a₂ ≡ located_clean r start end x → a₁ ≡ a₂
   locates-clean-once a₁ a₂ p q = one_answer p q

@@ -1,9 +1,8 @@
 -- What the calls on normal forms promise: the grounds of each in document 01's order, the answer, and what is left in
 -- what was lent.
-use Rattle.std.specs.Prelude.{ℕ, List, [], ◌∷◌, ◌++◌, length}
+use Rattle.std.specs.Prelude.{ℕ, List, [], ◌∷◌, ◌++◌, length, Result}
 use Rattle.stretch.specs.Over.{over}
-use Rattle.refusal.specs.declared.Outcome.{Outcome}
-use Rattle.refusal.specs.declared.Outcome.TheVariants.{Accepted as LetThrough, Refused as TurnedAway}
+use Rattle.refusal.specs.declared.Refusal.{Refusal}
 use Rattle.refusal.specs.Verdict.{Ground, Verdict, verdict, tell}
 use Rattle.refusal.specs.Grounds.{reference_over_limit, replacement_over_limit, start_above_end, end_above_reference}
 use Rattle.refusal.specs.Grounds.{output_too_short}
@@ -15,10 +14,7 @@ use Rattle.normal_form.specs.Stretches.{joined, joined_length, stretches_of, for
 use Rattle.moved.specs.declared.Moved.{Moved}
 use Rattle.moved.specs.Moved.{moved_by, moved_in}
 use Rattle.normal_form_calls.specs.declared.Form.{Form}
-use Rattle.normal_form_calls.specs.declared.Located.{Located}
-use Rattle.normal_form_calls.specs.declared.Located.TheVariants.{Accepted, Refused}
-use Rattle.normal_form_calls.specs.declared.Normalised.{Normalised}
-use Rattle.normal_form_calls.specs.declared.Normalised.TheVariants.{Accepted as Formed, Refused as Unformed}
+use Rattle.normal_form_calls.specs.declared.Formed.{Formed}
 
 -- an allele as given: 1, 2, 3, 4
 abbrev pub given_grounds : List ℕ → ℕ → ℕ → List ℕ → List Ground
@@ -40,20 +36,20 @@ normal_grounds r start end x room place =
     form_grounds r start end x ++ (output_too_short room place (length (normal r start end x).replacement) ∷ [])
 
 -- what the tests 1 to 4 answer
-abbrev pub given_answer : List ℕ → ℕ → ℕ → List ℕ → Outcome
-given_answer r start end x = tell TurnedAway (verdict (given_grounds r start end x)) LetThrough
+abbrev pub given_answer : List ℕ → ℕ → ℕ → List ℕ → Result (Unit {0}) Refusal
+given_answer r start end x = tell (verdict (given_grounds r start end x)) tt
 
 -- where a normal form lies, by 1 to 4 alone, and by 1 to 5
-abbrev pub located : List ℕ → ℕ → ℕ → List ℕ → Located
-located r start end x = tell Refused (verdict (given_grounds r start end x)) (Accepted (stretches_of r start end x))
+abbrev pub located : List ℕ → ℕ → ℕ → List ℕ → Result Stretches Refusal
+located r start end x = tell (verdict (given_grounds r start end x)) (stretches_of r start end x)
 
-abbrev pub located_clean : List ℕ → ℕ → ℕ → List ℕ → Located
+abbrev pub located_clean : List ℕ → ℕ → ℕ → List ℕ → Result Stretches Refusal
 located_clean r start end x =
-    tell Refused (verdict (form_grounds r start end x)) (Accepted (stretches_of r start end x))
+    tell (verdict (form_grounds r start end x)) (stretches_of r start end x)
 
 -- 5 alone, of stretches that are found
-abbrev pub cleanly : List ℕ → List ℕ → Stretches → Located
-cleanly r x w = tell Refused (verdict (foreign_normal (joined r x w) ∷ [])) (Accepted w)
+abbrev pub cleanly : List ℕ → List ℕ → Stretches → Result Stretches Refusal
+cleanly r x w = tell (verdict (foreign_normal (joined r x w) ∷ [])) w
 
 -- a normal form's numbers, as the call answers them
 abbrev pub numbers_of : Normal → Form
@@ -65,17 +61,17 @@ form_of w = record { kind = w.kind; start = w.start; end = w.end; length = joine
 
 -- the form is answered, with how far it moved, and its replacement stands in the buffer from the place on, or the
 -- buffer is as it was
-abbrev pub Forms : Verdict → Normal → Moved → List ℕ → ℕ → Normalised → List ℕ → Type 0
-Forms v f m out place = Keeps Unformed v (Formed (numbers_of f) m) out (over out place f.replacement)
+abbrev pub Forms : Verdict → Normal → Moved → List ℕ → ℕ → Result Formed Refusal → List ℕ → Type 0
+Forms v f m out place = Keeps v (record { form = numbers_of f; moved = m }) out (over out place f.replacement)
 
 -- 6 alone, of stretches that are found
-abbrev pub Lays : List ℕ → List ℕ → Stretches → List ℕ → ℕ → Normalised → List ℕ → Type 0
+abbrev pub Lays : List ℕ → List ℕ → Stretches → List ℕ → ℕ → Result Formed Refusal → List ℕ → Type 0
 Lays r x w out place =
     Forms (verdict (output_too_short (length out) place (length (joined r x w)) ∷ [])) (form_in r x w) (moved_in w) out
     place
 
 -- what `normal_form` promises
-abbrev pub Normalises : List ℕ → ℕ → ℕ → List ℕ → List ℕ → ℕ → Normalised → List ℕ → Type 0
+abbrev pub Normalises : List ℕ → ℕ → ℕ → List ℕ → List ℕ → ℕ → Result Formed Refusal → List ℕ → Type 0
 Normalises r start end x out place =
     Forms (verdict (normal_grounds r start end x (length out) place)) (normal r start end x)
     (moved_by r start end x) out

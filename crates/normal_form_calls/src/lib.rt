@@ -6,7 +6,9 @@
 
 mod call;
 
-pub use call::{check_given, clean, form_of, locate, locate_clean, normal_form, write_form};
+pub use call::{
+    check_given, clean, form_of, lay_form, locate, locate_clean, normal_form, write_form,
+};
 
 // A normal form, with the length of its replacement.
 #[derive(Clone, Copy)]
@@ -17,14 +19,9 @@ pub struct Form {
     pub length: u64,
 }
 
+// What the call for a normal form answers: the form, and how far it moved.
 #[derive(Clone, Copy)]
-pub enum Normalised {
-    Accepted(Form, moved::Moved),
-    Refused(refusal::Refusal),
-}
-
-#[derive(Clone, Copy)]
-pub enum Located {
-    Accepted(normal_form::Stretches),
-    Refused(refusal::Refusal),
+pub struct Formed {
+    pub form: Form,
+    pub moved: moved::Moved,
 }

@@ -1,24 +1,62 @@
-// The parts of a line of test vectors, on standard output, for the programs that print them: `digest_vectors`,
+// The parts of a line of test vectors, as they are printed, for the programs that print them: `digest_vectors`,
 // `allele_vectors` and `register_vectors`.
 #![tactic(auto)]
 
 ghost use Rattle.std.specs.Prelude.{◌≡◌, take, drop};
 
-use moved::Moved;
-use refusal::{Outcome, Refusal, Written};
-use std::io;
-use std::io::Write;
+use refusal::Refusal;
+use std::fmt;
 
-pub fn text(rt: &impl Print, s: &[u8]) -> io::Result<()> {
-    io::writer(rt).write_all(s)
+// A text; an empty one shows as a point.
+#[derive(Clone, Copy)]
+pub struct Shown<'a>(pub &'a [u8]);
+
+impl fmt::Display for Shown<'_> {
+    fn fmt<W: fmt::Write>(&self, f: &mut fmt::Formatter<W>) -> fmt::Result {
+        if self.0.is_empty() {
+            return f.write_str(".");
+        }
+        for b in self.0 {
+            f.write_char(char::from(*b))?;
+        }
+        Ok(())
+    }
 }
 
-// An empty text shows as a point.
-pub fn shown(rt: &impl Print, s: &[u8]) -> io::Result<()> {
-    if s.len() == 0 {
-        text(rt, b".")
-    } else {
-        text(rt, s)
+// Bytes, each as two digits.
+#[derive(Clone, Copy)]
+pub struct Hex<'a>(pub &'a [u8]);
+
+impl fmt::Display for Hex<'_> {
+    fn fmt<W: fmt::Write>(&self, f: &mut fmt::Formatter<W>) -> fmt::Result {
+        for b in self.0 {
+            write!(f, "{b:02x}")?;
+        }
+        Ok(())
+    }
+}
+
+// What a call answers, or the refusal.
+#[derive(Clone, Copy)]
+pub struct Answer<T>(pub Result<T, Refusal>);
+
+impl<T: fmt::Display + Drop> fmt::Display for Answer<T> {
+    fn fmt<W: fmt::Write>(&self, f: &mut fmt::Formatter<W>) -> fmt::Result {
+        match &self.0 {
+            Ok(answer) => write!(f, "{answer}"),
+            Err(why) => write!(f, "refused {why}"),
+        }
+    }
+}
+
+// How many bytes a call says it wrote.
+#[derive(Clone, Copy)]
+pub struct Written(pub u64);
+
+impl fmt::Display for Written {
+    fn fmt<W: fmt::Write>(&self, f: &mut fmt::Formatter<W>) -> fmt::Result {
+        let count = self.0;
+        write!(f, "written {count}")
     }
 }
 
@@ -26,74 +64,29 @@ pub fn shown(rt: &impl Print, s: &[u8]) -> io::Result<()> {
 pub fn part(out: &[u8], place: u64, count: u64) -> &[u8]
     ensures { result.now ≡ take count (drop place out.now) }
 {
-    let room = out.len() as u64;
-    if room < place {
-        return &out[0..0];
-    }
-    let from = place as usize;
-    if room - place < count {
-        return &out[from..];
-    }
-    &out[from..from + count as usize]
+    let from = place.min(out.len() as u64) as usize;
+    let rest = &out[from..];
+    let kept = count.min(rest.len() as u64) as usize;
+    &rest[..kept]
 }
 
-// A label, then two texts with a space between them.
-pub fn two(rt: &impl Print, label: &[u8], first: &[u8], second: &[u8]) -> io::Result<()> {
-    text(rt, label)?;
-    shown(rt, first)?;
-    text(rt, b" ")?;
-    shown(rt, second)
-}
+// How many bytes a call says it wrote, and which.
+#[derive(Clone, Copy)]
+pub struct WrittenText<'a>(pub u64, pub &'a [u8]);
 
-pub fn labelled(rt: &impl Print, label: &[u8], n: u64) -> io::Result<()> {
-    text(rt, label)?;
-    print!(rt; "{n}")
-}
-
-pub fn hex_byte(rt: &impl Print, b: u8) -> io::Result<()> {
-    print!(rt; "{b:02x}")
-}
-
-pub fn hex(rt: &impl Print, s: &[u8]) -> io::Result<()> {
-    for b in s {
-        hex_byte(rt, *b)?;
-    }
-    Ok(())
-}
-
-pub fn refused(rt: &impl Print, r: Refusal) -> io::Result<()> {
-    labelled(rt, b" refused ", r.number)?;
-    labelled(rt, b" ", r.value)
-}
-
-// How far a form moved.
-pub fn moved(rt: &impl Print, by: Moved) -> io::Result<()> {
-    labelled(rt, b" moved ", by.left.widened)?;
-    labelled(rt, b" ", by.left.shrunk)?;
-    labelled(rt, b" ", by.right.widened)?;
-    labelled(rt, b" ", by.right.shrunk)
-}
-
-pub fn outcome(rt: &impl Print, answer: Outcome) -> io::Result<()> {
-    match answer {
-        Outcome::Accepted => text(rt, b" taken"),
-        Outcome::Refused(r) => refused(rt, r),
+impl fmt::Display for WrittenText<'_> {
+    fn fmt<W: fmt::Write>(&self, f: &mut fmt::Formatter<W>) -> fmt::Result {
+        let count = Written(self.0);
+        let text = Shown(self.1);
+        write!(f, "{count} {text}")
     }
 }
 
-pub fn written(rt: &impl Print, answer: Written) -> io::Result<()> {
-    match answer {
-        Written::Bytes(count) => labelled(rt, b" written ", count),
-        Written::Refused(r) => refused(rt, r),
-    }
-}
-
-// The answer, and what it says is written in `out` from `place` on.
-pub fn written_text(rt: &impl Print, out: &[u8], place: u64, answer: Written) -> io::Result<()> {
-    written(rt, answer)?;
-    let Written::Bytes(count) = answer else {
-        return Ok(());
-    };
-    text(rt, b" ")?;
-    shown(rt, part(out, place, count))
+// What a call answers that writes into `out` from `place` on.
+pub fn written_text(
+    out: &[u8],
+    place: u64,
+    answer: Result<u64, Refusal>,
+) -> Answer<WrittenText<'_>> {
+    Answer(answer.map(|count| WrittenText(count, part(out, place, count))))
 }

@@ -1,17 +1,14 @@
 -- What the calls answer that read an image: the grounds of each in document 01's order, and what an accepted one tells.
-use Rattle.std.specs.Prelude.{ℕ, ◌+◌, List, [], ◌∷◌}
+use Rattle.std.specs.Prelude.{ℕ, ◌+◌, List, [], ◌∷◌, Result}
 use Rattle.refusal.specs.Verdict.{Ground, verdict, tell}
-use Rattle.refusal.specs.declared.Outcome.{Outcome}
-use Rattle.refusal.specs.declared.Outcome.TheVariants.{Accepted, Refused}
+use Rattle.refusal.specs.declared.Refusal.{Refusal}
 use Rattle.image.specs.Fields.{start_of, end_of, status_of, pool_offset, offset_of, length_of}
 use Rattle.changes.specs.Grounds.{not_well_formed, number_zero, number_above_issued}
 use Rattle.record_reader.specs.declared.Record.{Record}
-use Rattle.record_reader.specs.declared.RecordRead.{RecordRead}
-use Rattle.record_reader.specs.declared.RecordRead.TheVariants.{Accepted as Read, Refused as Unread}
 
 -- check: 10
-abbrev pub checked : List ℕ → Outcome
-checked b = tell Refused (verdict (not_well_formed b ∷ [])) Accepted
+abbrev pub checked : List ℕ → Result (Unit {0}) Refusal
+checked b = tell (verdict (not_well_formed b ∷ [])) tt
 
 -- a number that an image has issued: 10, 16
 unfoldable pub number_grounds : List ℕ → ℕ → List Ground
@@ -29,5 +26,5 @@ record_at b i =
     }
 
 -- record
-abbrev pub record_read : List ℕ → ℕ → RecordRead
-record_read b i = tell Unread (verdict (number_grounds b i)) (Read (record_at b i))
+abbrev pub record_read : List ℕ → ℕ → Result Record Refusal
+record_read b i = tell (verdict (number_grounds b i)) (record_at b i)

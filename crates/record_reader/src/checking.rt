@@ -3,14 +3,14 @@ ghost use Rattle.std.specs.Prelude.{◌≡◌};
 ghost use Rattle.record_reader.specs.Calls.{checked};
 
 use image::well_formed;
-use refusal::{IMAGE_NOT_WELL_FORMED, Outcome, refuse};
+use refusal::{Reason, Refusal, refuse};
 
 // Whether an image is well formed.
-pub fn check(image: &[u8]) -> Outcome
+pub fn check(image: &[u8]) -> Result<(), Refusal>
     ensures { result ≡ checked image.now }
 {
     if !well_formed(image) {
-        return Outcome::Refused(refuse(IMAGE_NOT_WELL_FORMED, 0));
+        return Err(refuse(Reason::ImageNotWellFormed, 0));
     }
-    Outcome::Accepted
+    Ok(())
 }

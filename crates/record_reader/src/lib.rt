@@ -1,5 +1,5 @@
 // What an image holds, read without changing a byte: whether it is well formed, and what stands under a number
-// (document 01, "The register image"). Crate `register` stands on it.
+// (document 01, "The register image"). Crates `entry` and `register` stand on it.
 //
 // specs/Calls.antt has the grounds and what the calls answer, and proofs/Told.antt what an accepted reading tells.
 #![tactic(auto)]
@@ -11,7 +11,7 @@ pub use checking::check;
 pub use reading::{check_number, read_record};
 
 // What stands under a number: its normal interval, its status (1 active, 0 inactive), and where its replacement
-// lies in the image.
+// lies in the image. All five are numbers, as the C interface hands them on.
 #[derive(Clone, Copy)]
 pub struct Record {
     pub start: u64,
@@ -19,10 +19,4 @@ pub struct Record {
     pub status: u64,
     pub offset: u64,
     pub length: u64,
-}
-
-#[derive(Clone, Copy)]
-pub enum RecordRead {
-    Accepted(Record),
-    Refused(refusal::Refusal),
 }

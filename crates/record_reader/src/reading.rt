@@ -5,28 +5,25 @@ ghost use Rattle.image.specs.Header.{Header};
 ghost use Rattle.record_reader.specs.Calls.{record_at, record_read};
 ghost use Rattle.record_reader.specs.Inner.{number_answer};
 
-use super::{Record, RecordRead};
+use super::Record;
+use super::checking::check;
 use image::{
-    END_IN_RECORD, ISSUED_AT, LENGTH_IN_RECORD, OFFSET_IN_RECORD, POOL_OFFSET_AT, STATUS_IN_RECORD,
-    read_number, record_at, well_formed,
+    END_IN_RECORD, ISSUED_AT, LENGTH_IN_RECORD, OFFSET_IN_RECORD, POOL_OFFSET_AT, START_IN_RECORD,
+    STATUS_IN_RECORD, read_field, read_number,
 };
-use refusal::{IMAGE_NOT_WELL_FORMED, NO_SUCH_NUMBER, Outcome, refuse};
+use refusal::{Reason, Refusal, refuse};
 
 // Whether a number was issued: the tests 10, 16.
-pub fn check_number(image: &[u8], number: u64) -> Outcome
+#[tactic(auto, unfolding(crate::specs::Calls::number_grounds))]
+pub fn check_number(image: &[u8], number: u64) -> Result<(), Refusal>
     ensures { result ≡ number_answer image.now number }
 {
-    if !well_formed(image) {
-        return Outcome::Refused(refuse(IMAGE_NOT_WELL_FORMED, 0));
-    }
+    check(image)?;
     let issued = read_number(image, ISSUED_AT) as u64;
-    if number == 0 {
-        return Outcome::Refused(refuse(NO_SUCH_NUMBER, issued));
+    if !(1..=issued).contains(&number) {
+        return Err(refuse(Reason::NoSuchNumber, issued));
     }
-    if issued < number {
-        return Outcome::Refused(refuse(NO_SUCH_NUMBER, issued));
-    }
-    Outcome::Accepted
+    Ok(())
 }
 
 // The record of a number that was issued.
@@ -35,12 +32,11 @@ fn record_of(image: &[u8], number: usize) -> Record
     requires le_number { (1 ≤ number) × (number ≤ issued image.now) }
     ensures { result ≡ record_at image.now number }
 {
-    let at = record_at(number);
-    let start = read_number(image, at);
-    let end = read_number(image, at + END_IN_RECORD);
-    let status = read_number(image, at + STATUS_IN_RECORD);
-    let offset = read_number(image, POOL_OFFSET_AT) + read_number(image, at + OFFSET_IN_RECORD);
-    let length = read_number(image, at + LENGTH_IN_RECORD);
+    let start = read_field(image, number, START_IN_RECORD);
+    let end = read_field(image, number, END_IN_RECORD);
+    let status = read_field(image, number, STATUS_IN_RECORD);
+    let offset = read_number(image, POOL_OFFSET_AT) + read_field(image, number, OFFSET_IN_RECORD);
+    let length = read_field(image, number, LENGTH_IN_RECORD);
     Record {
         start: start as u64,
         end: end as u64,
@@ -51,11 +47,9 @@ fn record_of(image: &[u8], number: usize) -> Record
 }
 
 // What stands under a number.
-pub fn read_record(image: &[u8], number: u64) -> RecordRead
+pub fn read_record(image: &[u8], number: u64) -> Result<Record, Refusal>
     ensures { result ≡ record_read image.now number }
 {
-    match check_number(image, number) {
-        Outcome::Accepted => RecordRead::Accepted(record_of(image, number as usize)),
-        Outcome::Refused(why) => RecordRead::Refused(why),
-    }
+    check_number(image, number)?;
+    Ok(record_of(image, number as usize))
 }

@@ -4,3 +4,4 @@ pub mod Verdict
 pub mod Keeps
 pub mod Writes
 pub mod WritesUnless
+pub mod HandedOn

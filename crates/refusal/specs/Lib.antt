@@ -1,4 +1,5 @@
 pub mod Limits
+pub mod Numbers
 pub mod Verdict
 pub mod Grounds
 pub mod Keeps

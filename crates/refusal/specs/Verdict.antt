@@ -1,17 +1,18 @@
 -- Document 01, "Turned away": a call's grounds for refusing stand in its order, and the first that holds decides.
-use Rattle.std.specs.Prelude.{ℕ, Bool, true, false, List, [], ◌∷◌}
+use Rattle.std.specs.Prelude.{ℕ, Bool, true, false, List, [], ◌∷◌, Result, Ok, Err}
+use Rattle.refusal.specs.declared.Reason.{Reason}
 use Rattle.refusal.specs.declared.Refusal.{Refusal}
 
--- a condition, and the number and the value that it is refused under
+-- a condition, and the reason and the value that it is refused under
 pub record Ground : Type 0 where
   pub holds : Bool
-  pub number : ℕ
+  pub reason : Reason
   pub value : ℕ
 
-abbrev pub ground : Bool → ℕ → ℕ → Ground
-ground b n v = record { holds = b; number = n; value = v }
+abbrev pub ground : Bool → Reason → ℕ → Ground
+ground b r v = record { holds = b; reason = r; value = v }
 
--- what comes of a call: it is accepted, or refused with a number and a value
+-- what comes of a call: it is accepted, or refused with a reason and a value
 pub data Verdict : Type 0 where
   accepted : Verdict
   refused : Refusal → Verdict
@@ -24,12 +25,12 @@ unless false r v = v
 -- the first ground that holds
 abbrev pub verdict : List Ground → Verdict
 verdict [] = accepted
-verdict (g ∷ gs) = unless g.holds (record { number = g.number; value = g.value }) (verdict gs)
+verdict (g ∷ gs) = unless g.holds (record { reason = g.reason; value = g.value }) (verdict gs)
 
--- a call's answer: the refusal, as the call's own type holds it, or the answer of an accepted call
-abbrev pub tell : {A : Type 0} → (Refusal → A) → Verdict → A → A
-tell f accepted a = a
-tell f (refused r) a = f r
+-- a call's answer: the refusal, or the answer of an accepted call
+abbrev pub tell : {A : Type 0} → Verdict → A → Result A Refusal
+tell accepted a = Ok a
+tell (refused r) a = Err r
 
 -- what a call leaves of something lent: as it was when it refuses, else new
 abbrev pub leave : {A : Type 0} → Verdict → A → A → A

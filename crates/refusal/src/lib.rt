@@ -1,73 +1,87 @@
-// What a call answers when it turns its input away: document 01's number and value, with the
-// numbers and the limits by name. Every crate that refuses stands on this one.
+// What a call answers when it turns its input away: document 01's number, by its reason, and value, with the
+// limits by name. Every crate that refuses stands on this one.
 //
-// specs/Verdict.antt has the ordered grounds of a refusal and the verdict over them, and
-// specs/Writes.antt what a call that writes promises.
+// specs/Numbers.antt has document 01's numbers, specs/Verdict.antt the ordered grounds of a refusal and the
+// verdict over them, and specs/Writes.antt what a call that writes promises.
 #![tactic(auto)]
 
-ghost use Rattle.std.specs.Prelude.{◌≡◌, ◌+◌, ltb};
+ghost use Rattle.std.specs.Prelude.{◌≡◌, ◌+◌, ltb, ◌++◌, Some, decimal, codes};
+ghost use Rattle.refusal.specs.Numbers.{number_of};
 
-#[derive(Clone, Copy)]
+use std::fmt;
+
+// Why a call turns its input away, in the order of document 01's numbers.
+#[derive(Clone, Copy, PartialEq, Eq, Debug)]
+pub enum Reason {
+    OverLimit,
+    StartAboveEnd,
+    EndAboveReference,
+    ForeignByte,
+    ForeignNormalByte,
+    OutputTooShort,
+    BadDigestText,
+    TextNotAccepted,
+    NoRoomForImage,
+    ImageNotWellFormed,
+    OtherReference,
+    UnchangedAllele,
+    NoFreeRecord,
+    NoPoolRoom,
+    NoJournalRoom,
+    NoSuchNumber,
+    NotActive,
+    NothingToUndo,
+    NoDataLine,
+    RefDiffers,
+    NoAlternate,
+}
+
+impl From<Reason> for u64 {
+    ghost from_gives = { λ reason number. number ≡ number_of reason };
+
+    fn from(reason: Reason) -> u64 {
+        match reason {
+            Reason::OverLimit => 1,
+            Reason::StartAboveEnd => 2,
+            Reason::EndAboveReference => 3,
+            Reason::ForeignByte => 4,
+            Reason::ForeignNormalByte => 5,
+            Reason::OutputTooShort => 6,
+            Reason::BadDigestText => 7,
+            Reason::TextNotAccepted => 8,
+            Reason::NoRoomForImage => 9,
+            Reason::ImageNotWellFormed => 10,
+            Reason::OtherReference => 11,
+            Reason::UnchangedAllele => 12,
+            Reason::NoFreeRecord => 13,
+            Reason::NoPoolRoom => 14,
+            Reason::NoJournalRoom => 15,
+            Reason::NoSuchNumber => 16,
+            Reason::NotActive => 17,
+            Reason::NothingToUndo => 18,
+            Reason::NoDataLine => 19,
+            Reason::RefDiffers => 20,
+            Reason::NoAlternate => 21,
+        }
+    }
+}
+
+#[derive(Clone, Copy, PartialEq, Eq, Debug)]
 pub struct Refusal {
-    pub number: u64,
+    pub reason: Reason,
     pub value: u64,
 }
 
-// The answer of a call that only accepts or refuses.
-#[derive(Clone, Copy)]
-pub enum Outcome {
-    Accepted,
-    Refused(Refusal),
+// The number and the value.
+impl fmt::Display for Refusal {
+    ghost output = { λ why. Some (decimal (number_of why.reason) ++ (codes " " ++ decimal why.value)) };
+
+    fn fmt<W: fmt::Write>(&self, f: &mut fmt::Formatter<W>) -> fmt::Result {
+        let number = u64::from(self.reason);
+        let value = self.value;
+        write!(f, "{number} {value}")
+    }
 }
-
-// The answer of a call that writes: how many bytes it wrote.
-#[derive(Clone, Copy)]
-pub enum Written {
-    Bytes(u64),
-    Refused(Refusal),
-}
-
-pub const OVER_LIMIT: u64 = 1;
-
-pub const START_ABOVE_END: u64 = 2;
-
-pub const END_ABOVE_REFERENCE: u64 = 3;
-
-pub const FOREIGN_BYTE: u64 = 4;
-
-pub const FOREIGN_NORMAL_BYTE: u64 = 5;
-
-pub const OUTPUT_TOO_SHORT: u64 = 6;
-
-pub const BAD_DIGEST_TEXT: u64 = 7;
-
-pub const TEXT_NOT_ACCEPTED: u64 = 8;
-
-pub const NO_ROOM_FOR_IMAGE: u64 = 9;
-
-pub const IMAGE_NOT_WELL_FORMED: u64 = 10;
-
-pub const OTHER_REFERENCE: u64 = 11;
-
-pub const UNCHANGED_ALLELE: u64 = 12;
-
-pub const NO_FREE_RECORD: u64 = 13;
-
-pub const NO_POOL_ROOM: u64 = 14;
-
-pub const NO_JOURNAL_ROOM: u64 = 15;
-
-pub const NO_SUCH_NUMBER: u64 = 16;
-
-pub const NOT_ACTIVE: u64 = 17;
-
-pub const NOTHING_TO_UNDO: u64 = 18;
-
-pub const NO_DATA_LINE: u64 = 19;
-
-pub const REF_DIFFERS: u64 = 20;
-
-pub const NO_ALTERNATE: u64 = 21;
 
 pub const REFERENCE_LIMIT: u64 = 1_000_000_000;
 
@@ -75,10 +89,10 @@ pub const REPLACEMENT_LIMIT: u64 = 1_000_000;
 
 pub const SEQUENCE_LIMIT: u64 = 1_001_000_000;
 
-pub fn refuse(number: u64, value: u64) -> Refusal
-    ensures { result ≡ record { number = number; value = value } }
+pub fn refuse(reason: Reason, value: u64) -> Refusal
+    ensures { result ≡ record { reason = reason; value = value } }
 {
-    Refusal { number, value }
+    Refusal { reason, value }
 }
 
 // Whether a + b is above the limit. No sum is taken, so none can wrap.

@@ -4,14 +4,16 @@ use native.Mathlib.Omega.{arith}
 use mathlib.Core.Path.{◌≡◌}
 use mathlib.Core.Bool.{true}
 use mathlib.Core.List.{List}
+use Rattle.std.specs.Prelude.{Ok}
 use borrow.Author.Tests.{not-false, leb-false, eqb-true, eqb-false}
 use Rattle.refusal.specs.Verdict.{accepted, verdict}
-use Rattle.refusal.proofs.Verdict.{none-holds, verdict-fewer, verdict-later}
+use Rattle.refusal.proofs.Verdict.{none-holds, verdict-fewer, verdict-later, told-accepted}
 use Rattle.image.specs.Fields.{journal_capacity, journal_count, status_of, active}
 use Rattle.image.specs.Formed.{well_formed}
 use Rattle.record_reader.specs.Calls.{number_grounds}
 use Rattle.record_reader.proofs.Issued.{Issued, accepted-issued}
 use Rattle.register.specs.Calls.{active_grounds, withdrawal_grounds, undo_grounds}
+use Rattle.register.specs.Inner.{withdrawal_answer, undo_answer}
 
 pub record Withdrawable (b : List ℕ) (i : ℕ) : Type 0 where
   pub issued : Issued b i
@@ -39,3 +41,10 @@ accepted-undoable b v =
       formed = not-false _ (none-holds (undo_grounds b) v 0);
       some = let e = eqb-false (journal_count b) 0 (none-holds (undo_grounds b) v 1) in omega (arith, e);
     }
+
+-- what the tests tell where they pass
+pub answered-withdrawable : (b : List ℕ) (i : ℕ) (u : Unit {0}) → Ok u ≡ withdrawal_answer b i → Withdrawable b i
+answered-withdrawable b i u e = accepted-withdrawable b i (told-accepted (verdict (withdrawal_grounds b i)) tt u e).0
+
+pub answered-undoable : (b : List ℕ) (u : Unit {0}) → Ok u ≡ undo_answer b → Undoable b
+answered-undoable b u e = accepted-undoable b (told-accepted (verdict (undo_grounds b)) tt u e).0

@@ -1,14 +1,24 @@
 -- The last journal entry of a well-formed image, as undo reads it and takes it back.
-use Prim.Native.Nat.{ℕ, ◌+◌, ◌-◌, ◌*◌, ◌≤◌}
+use Prim.Native.Nat.{ℕ, zero, suc, ◌+◌, ◌-◌, ◌*◌, ◌≤◌}
 use native.Mathlib.Omega.{arith}
 use mathlib.Core.Path.{◌≡◌, ◌∙◌}
-use mathlib.Core.Bool.{true}
+use mathlib.Core.Bool.{true, false}
 use mathlib.Core.List.{List}
-use Rattle.image.specs.Numbers.{number, put}
-use Rattle.image.specs.Fields.{entry_size, issued, journal_offset, journal_count, journal_count_place, status_of}
+use lib.Dec.{eqb}
+use borrow.Author.Tests.{eqb-false}
+use Rattle.image.specs.Numbers.{number}
+use Rattle.image.specs.Fields.{entry_size, issued, journal_offset, journal_count, status_of}
+use Rattle.image.specs.Fields.{active}
 use Rattle.image.specs.Formed.{well_formed}
 use Rattle.image.proofs.WellFormed.{well_formed-formed}
-use Rattle.changes.specs.Changes.{marked, latest, undone}
+use Rattle.changes.specs.Changes.{latest}
+
+-- a number that is not active
+pub other-status : (b : List ℕ) → well_formed b ≡ true → (i : ℕ) → (1 ≤ i) × (i ≤ issued b)
+    → eqb (status_of b i) active ≡ false → active ≡ 1 - status_of b i
+other-status b w zero n e = absurd (omega (arith, n.0))
+other-status b w (suc k) n e =
+    omega (arith, ((well_formed-formed b w).records k n.1).status, eqb-false (status_of b (suc k)) active e)
 
 module _ (b : List ℕ) (w : well_formed b ≡ true) (count at n : ℕ) (e : count ≡ journal_count b)
     (some : 1 ≤ journal_count b)
@@ -23,7 +33,3 @@ module _ (b : List ℕ) (w : well_formed b ≡ true) (count at n : ℕ) (e : cou
       let f = (well_formed-formed b w).entries (count - 1) (omega arith) in
       let at_last : n ≡ number b (journal_offset b + entry_size * (count - 1)) = i ∙ rw a in
       (omega (arith, f.some, at_last), omega (arith, f.numbered, at_last))
-
-  pub latest-undone : put (marked b n (1 - status_of b n)) journal_count_place (count - 1) ≡ undone b
-  unfolding undone
-  latest-undone = rw (latest-read, e)

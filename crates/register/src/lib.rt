@@ -9,10 +9,3 @@ mod withdrawal;
 
 pub use undoing::{seal, undo};
 pub use withdrawal::withdraw;
-
-// The answer of an undo: the number whose last change was taken back.
-#[derive(Clone, Copy)]
-pub enum Undone {
-    Number(u64),
-    Refused(refusal::Refusal),
-}

@@ -5,46 +5,39 @@ ghost use Rattle.image.specs.Header.{Header};
 ghost use Rattle.register.specs.Calls.{Withdraws};
 ghost use Rattle.register.specs.Inner.{active_answer, withdrawal_answer};
 
-use changes::change;
-use image::{ACTIVE, INACTIVE, JOURNAL_CAPACITY_AT, JOURNAL_COUNT_AT, read_number, status_of};
+use changes::{change, check_journal};
+use image::{Status, is_active};
 use record_reader::check_number;
-use refusal::{NO_JOURNAL_ROOM, NOT_ACTIVE, Outcome, refuse};
+use refusal::{Reason, Refusal, refuse};
 
 // The tests 17, 15, of a number that was issued.
-fn check_active(image: &[u8], number: usize) -> Outcome
+#[tactic(auto, unfolding(crate::specs::Calls::active_grounds))]
+fn check_active(image: &[u8], number: usize) -> Result<(), Refusal>
     requires header { Header image.now }
     requires le_number { (1 ≤ number) × (number ≤ issued image.now) }
     ensures { result ≡ active_answer image.now number }
 {
-    if status_of(image, number) != ACTIVE {
-        return Outcome::Refused(refuse(NOT_ACTIVE, number as u64));
+    if !is_active(image, number) {
+        return Err(refuse(Reason::NotActive, number as u64));
     }
-    let capacity = read_number(image, JOURNAL_CAPACITY_AT);
-    if capacity <= read_number(image, JOURNAL_COUNT_AT) {
-        return Outcome::Refused(refuse(NO_JOURNAL_ROOM, capacity as u64));
-    }
-    Outcome::Accepted
+    check_journal(image)
 }
 
 // The tests 10, 16, 17, 15.
-fn check_withdrawal(image: &[u8], number: u64) -> Outcome
+#[tactic(auto, unfolding(crate::specs::Calls::withdrawal_grounds))]
+fn check_withdrawal(image: &[u8], number: u64) -> Result<(), Refusal>
     ensures { result ≡ withdrawal_answer image.now number }
 {
-    match check_number(image, number) {
-        Outcome::Accepted => check_active(image, number as usize),
-        Outcome::Refused(why) => Outcome::Refused(why),
-    }
+    check_number(image, number)?;
+    check_active(image, number as usize)
 }
 
 // Makes an active number inactive.
-pub fn withdraw(image: &mut [u8], number: u64) -> Outcome
+#[tactic(auto, unfolding(crate::specs::Calls::Withdraws, changes::specs::Changes::withdrawn))]
+pub fn withdraw(image: &mut [u8], number: u64) -> Result<(), Refusal>
     ensures { Withdraws image.old number result image.new }
 {
-    match check_withdrawal(image, number) {
-        Outcome::Accepted => {
-            change(image, number as usize, INACTIVE);
-            Outcome::Accepted
-        }
-        Outcome::Refused(why) => Outcome::Refused(why),
-    }
+    check_withdrawal(image, number)?;
+    change(image, number as usize, Status::Inactive);
+    Ok(())
 }

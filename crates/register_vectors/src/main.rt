@@ -9,6 +9,6 @@ mod worked;
 use std::io;
 
 fn main(rt: HostRuntime) -> io::Result<()> {
-    worked::lines(&rt)?;
-    protein::lines(&rt)
+    calls::lines(&rt, worked::SETTING, worked::CALLS)?;
+    calls::lines(&rt, protein::SETTING, protein::CALLS)
 }

@@ -3,8 +3,8 @@
 use Prim.Native.Nat.{ℕ}
 use mathlib.Core.Path.{◌≡◌, refl, sym, ◌∙◌}
 use mathlib.Core.List.{List, [], ◌∷◌}
-use Rattle.refusal.specs.declared.Outcome.{Outcome}
-use Rattle.refusal.specs.declared.Written.{Written}
+use Rattle.std.specs.Prelude.{Result}
+use Rattle.refusal.specs.declared.Refusal.{Refusal}
 use Rattle.refusal.specs.Verdict.{accepted, verdict}
 use Rattle.refusal.proofs.Unique.{one_answer}
 use Rattle.sha512.specs.declared.Running.{Running}
@@ -13,8 +13,8 @@ use Rattle.sequence_identifier.specs.Calls.{reference_grounds, feeding, feeding_
 use Rattle.sequence_identifier.proofs.Cut.{cut-taken, cut-anywhere}
 use Rattle.running_digest.specs.Calls.{Feeds, FeedsAll}
 
-pub feeds-once : (state : Running) (part : List ℕ) (o₁ o₂ : Outcome) (s₁ s₂ : Running) → Feeds state part o₁ s₁
-    → Feeds state part o₂ s₂ → (o₁ ≡ o₂) × (s₁ ≡ s₂)
+pub feeds-once : (state : Running) (part : List ℕ) (o₁ o₂ : Result (Unit {0}) Refusal) (s₁ s₂ : Running)
+    → Feeds state part o₁ s₁ → Feeds state part o₂ s₂ → (o₁ ≡ o₂) × (s₁ ≡ s₂)
 feeds-once state part o₁ o₂ s₁ s₂ p q = (one_answer p.answers q.answers, one_answer p.leaves q.leaves)
 
 all-taken : (state : Running) (parts : List (List ℕ)) (after : Running) → FeedsAll state parts after
@@ -28,8 +28,8 @@ each_fed : (state : Running) (parts : List (List ℕ)) → AllTaken state parts
     → FeedsAll state parts (feeding_all state parts)
 each_fed state [] a = refl
 each_fed state (part ∷ parts) (e, a) = (
-  (feeding state part).state,
-  (record { answers = sym e; leaves = refl }, each_fed (feeding state part).state parts a),
+  feeding state part,
+  (record { answers = sym e; leaves = refl }, each_fed (feeding state part) parts a),
 )
 
 -- wherever a reference is cut that is within its limit and has no foreign byte, each part is accepted, one after
@@ -40,7 +40,7 @@ lent-taken parts v = each_fed begun parts (cut-taken parts v)
 
 -- what finish promises after parts that were all accepted is what the whole reference's call promises
 pub lent-anywhere : (parts : List (List ℕ)) (after : Running) → FeedsAll begun parts after
-    → (out : List ℕ) (place : ℕ) (answer : Written) (left : List ℕ)
+    → (out : List ℕ) (place : ℕ) (answer : Result ℕ Refusal) (left : List ℕ)
     → Finishes after out place answer left → Identifies (joined parts) out place answer left
 lent-anywhere parts after f out place answer left finishes =
     let (taken, is) = all-taken begun parts after f in

@@ -9,10 +9,10 @@ use lib.Dec.{ltb}
 use lib.ListN.{length, length-append}
 use borrow.Author.Tests.{ltb-false, le-ltb}
 use Rattle.refusal.specs.Limits.{reference_limit}
-use Rattle.refusal.specs.declared.Outcome.TheVariants.{Accepted}
-use Rattle.refusal.specs.declared.Written.{Written}
+use Rattle.std.specs.Prelude.{Result, Ok}
+use Rattle.refusal.specs.declared.Refusal.{Refusal}
 use Rattle.refusal.specs.Verdict.{accepted, verdict}
-use Rattle.refusal.proofs.Verdict.{none-holds, outcome-accepted}
+use Rattle.refusal.proofs.Verdict.{none-holds, told-accepted}
 use Rattle.stretch.specs.Class.{every}
 use Rattle.alphabets.specs.Alphabets.{residue, foreign}
 use Rattle.stretch.proofs.Class.{every_append, every_front}
@@ -23,7 +23,8 @@ use Rattle.sha512.specs.Feeding.{begun, joined}
 use Rattle.sha512.proofs.Join.{Fed, fed-begun, fed-on, finished-is}
 use Rattle.digest_text.specs.Digest.{sha512t24u}
 use Rattle.sequence_identifier.specs.Identifier.{sequence_identifier}
-use Rattle.sequence_identifier.specs.Calls.{reference_grounds, part_grounds, feeding, feeding_all, AllTaken}
+use Rattle.sequence_identifier.specs.Calls.{reference_grounds, part_grounds, part_answer}
+use Rattle.sequence_identifier.specs.Calls.{feeding, feeding_all, AllTaken}
 use Rattle.sequence_identifier.specs.Calls.{Identifies, Finishes}
 
 -- a state of so many residues, within the limit
@@ -32,11 +33,11 @@ record Taken (state : Running) (m : List ℕ) : Type 0 where
   residues : every residue m ≡ true
   within : length m ≤ reference_limit
 
-taken-on : (state : Running) (m part : List ℕ) → Taken state m → (feeding state part).outcome ≡ Accepted
-    → Taken (feeding state part).state (m ++ part)
+taken-on : (state : Running) (m part : List ℕ) → Taken state m → part_answer state.total part ≡ Ok tt
+    → Taken (feeding state part) (m ++ part)
 taken-on state m part t e =
     let v : verdict (part_grounds state.total part) ≡ accepted =
-    outcome-accepted (verdict (part_grounds state.total part)) (sym e) in
+    (told-accepted (verdict (part_grounds state.total part)) tt tt (sym e)).0 in
     let passed = none-holds (part_grounds state.total part) v in
     let total : state.total ≡ length m = t.fed-is.total-is in
     let few : state.total + length part ≤ reference_limit =
@@ -56,7 +57,7 @@ all-taken : (parts : List (List ℕ)) (state : Running) (m : List ℕ) → Taken
 all-taken [] state m t a = rw append-nil t
 all-taken (part ∷ parts) state m t a =
     rw (← append_assoc m part (joined parts))
-    (all-taken parts (feeding state part).state (m ++ part) (taken-on state m part t a.0) a.1)
+    (all-taken parts (feeding state part) (m ++ part) (taken-on state m part t a.0) a.1)
 
 begun-taken : Taken begun []
 unfolding every
@@ -64,7 +65,7 @@ begun-taken = record { fed-is = fed-begun; residues = refl; within = omega arith
 
 -- residues after those of a state are taken, as long as all of them are within the limit
 taken_next : (state : Running) (m part : List ℕ) → Taken state m → length (m ++ part) ≤ reference_limit
-    → every residue part ≡ true → (feeding state part).outcome ≡ Accepted
+    → every residue part ≡ true → part_answer state.total part ≡ Ok tt
 taken_next state m part t few all =
     let total : state.total ≡ length m = t.fed-is.total-is in
     let long : length (m ++ part) ≡ length m + length part = length-append m part in
@@ -83,9 +84,9 @@ taken-each (part ∷ parts) state m t few all =
     let long : length ((m ++ part) ++ joined parts) ≡ length (m ++ part) + length (joined parts) =
     length-append (m ++ part) (joined parts) in
     let few' : length ((m ++ part) ++ joined parts) ≤ reference_limit = rw split few in
-    let here : (feeding state part).outcome ≡ Accepted = taken_next state m part t (omega arith) front in (
+    let here : part_answer state.total part ≡ Ok tt = taken_next state m part t (omega arith) front in (
       here,
-      taken-each parts (feeding state part).state (m ++ part) (taken-on state m part t here) few'
+      taken-each parts (feeding state part) (m ++ part) (taken-on state m part t here) few'
           (rw (every_append residue part (joined parts), front) at all),
     )
 
@@ -101,7 +102,7 @@ cut-taken parts v =
 
 -- what finish promises after parts that were all taken is what the whole reference's call promises
 pub cut-anywhere : (parts : List (List ℕ)) → AllTaken begun parts
-    → (out : List ℕ) (place : ℕ) (answer : Written) (left : List ℕ)
+    → (out : List ℕ) (place : ℕ) (answer : Result ℕ Refusal) (left : List ℕ)
     → Finishes (feeding_all begun parts) out place answer left → Identifies (joined parts) out place answer left
 unfolding sequence_identifier sha512t24u
 cut-anywhere parts a out place answer left f =

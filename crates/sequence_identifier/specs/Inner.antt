@@ -1,19 +1,11 @@
--- What the inner functions promise: the tests, and a part that is refused.
-use Rattle.std.specs.Prelude.{ℕ, List}
+-- What the tests of a whole reference and of a finish answer.
+use Rattle.std.specs.Prelude.{ℕ, List, Result}
 use Rattle.refusal.specs.Verdict.{verdict, tell}
-use Rattle.refusal.specs.declared.Outcome.{Outcome}
-use Rattle.refusal.specs.declared.Outcome.TheVariants.{Accepted, Refused}
-use Rattle.sha512.specs.declared.Running.{Running}
-use Rattle.sequence_identifier.specs.declared.Fed.{Fed}
+use Rattle.refusal.specs.declared.Refusal.{Refusal}
 use Rattle.sequence_identifier.specs.Calls.{whole_grounds, finish_grounds}
 
--- what the tests of each answer
-unfoldable pub whole_answer : List ℕ → ℕ → ℕ → Outcome
-whole_answer reference room place = tell Refused (verdict (whole_grounds reference room place)) Accepted
+unfoldable pub whole_answer : List ℕ → ℕ → ℕ → Result (Unit {0}) Refusal
+whole_answer reference room place = tell (verdict (whole_grounds reference room place)) tt
 
-unfoldable pub finish_answer : ℕ → ℕ → ℕ → Outcome
-finish_answer total room place = tell Refused (verdict (finish_grounds total room place)) Accepted
-
--- a refused part leaves the state as it was
-abbrev pub unfed : Running → ℕ → ℕ → Fed
-unfed state number value = record { state = state; outcome = Refused (record { number = number; value = value }) }
+unfoldable pub finish_answer : ℕ → ℕ → ℕ → Result (Unit {0}) Refusal
+finish_answer total room place = tell (verdict (finish_grounds total room place)) tt

@@ -1,17 +1,13 @@
-// The running digest of a reference that comes in parts. The state goes in by value and comes back.
+// The running digest of a reference that comes in parts.
 ghost use Rattle.std.specs.Prelude.{◌≡◌};
 ghost use Rattle.sha512.specs.Feeding.{begun};
-ghost use Rattle.sequence_identifier.specs.Calls.{Finishes, feeding};
-ghost use Rattle.sequence_identifier.specs.Inner.{finish_answer, unfed};
+ghost use Rattle.sequence_identifier.specs.Calls.{Finishes, part_answer, feeding};
+ghost use Rattle.sequence_identifier.specs.Inner.{finish_answer};
 
-use super::Fed;
 use super::identifier::{IDENTIFIER_LENGTH, SEQUENCE_PREFIX};
 use alphabets::first_foreign;
 use digest_text::place_identifier;
-use refusal::{
-    FOREIGN_BYTE, OUTPUT_TOO_SHORT, OVER_LIMIT, Outcome, REFERENCE_LIMIT, Refusal, Written, refuse,
-    sum_exceeds,
-};
+use refusal::{REFERENCE_LIMIT, Reason, Refusal, refuse, sum_exceeds};
 use sha512::Running;
 
 // A running digest of nothing yet.
@@ -21,56 +17,49 @@ pub fn begin() -> Running
     sha512::begin()
 }
 
-fn refused_part(state: Running, number: u64, value: u64) -> Fed
-    ensures { result ≡ unfed state number value }
+// The tests 1, 4 of a part.
+fn check_part(total: u64, part: &[u8]) -> Result<(), Refusal>
+    ensures { result ≡ part_answer total part.now }
 {
-    Fed {
-        state,
-        outcome: Outcome::Refused(Refusal { number, value }),
-    }
-}
-
-// Goes on with one more part. A refused part leaves the state as it was.
-pub fn feed(state: Running, part: &[u8]) -> Fed
-    ensures { result ≡ feeding state part.now }
-{
-    let total = state.total;
     if sum_exceeds(total, part.len() as u64, REFERENCE_LIMIT) {
-        return refused_part(state, OVER_LIMIT, 0);
+        return Err(refuse(Reason::OverLimit, 0));
     }
     let foreign = first_foreign(part);
     if foreign < part.len() {
-        return refused_part(state, FOREIGN_BYTE, foreign as u64);
+        return Err(refuse(Reason::ForeignByte, foreign as u64));
     }
-    Fed {
-        state: sha512::feed(state, part),
-        outcome: Outcome::Accepted,
-    }
+    Ok(())
+}
+
+// Goes on with one more part. A refused part leaves the state as it was.
+pub fn feed(state: &mut Running, part: &[u8]) -> Result<(), Refusal>
+    ensures answers { result ≡ part_answer state.old.total part.now }
+    ensures leaves { state.new ≡ feeding state.old part.now }
+{
+    check_part(state.total, part)?;
+    *state = sha512::feed(*state, part);
+    Ok(())
 }
 
 // The tests 1, 6 of a finish.
-fn check_finish(total: u64, place: u64, room: u64) -> Outcome
+fn check_finish(total: u64, place: u64, room: u64) -> Result<(), Refusal>
     ensures { result ≡ finish_answer total room place }
 {
     if REFERENCE_LIMIT < total {
-        return Outcome::Refused(refuse(OVER_LIMIT, 0));
+        return Err(refuse(Reason::OverLimit, 0));
     }
     if sum_exceeds(place, IDENTIFIER_LENGTH, room) {
-        return Outcome::Refused(refuse(OUTPUT_TOO_SHORT, IDENTIFIER_LENGTH));
+        return Err(refuse(Reason::OutputTooShort, IDENTIFIER_LENGTH));
     }
-    Outcome::Accepted
+    Ok(())
 }
 
 // Writes the identifier of all the parts into `out` from `place` on. The state stays the caller's.
-pub fn finish(state: Running, out: &mut [u8], place: u64) -> Written
+pub fn finish(state: Running, out: &mut [u8], place: u64) -> Result<u64, Refusal>
     ensures { Finishes state out.old place result out.new }
 {
     let room = out.len() as u64;
-    match check_finish(state.total, place, room) {
-        Outcome::Accepted => {
-            let hash = sha512::finish(state);
-            place_identifier(out, place, &SEQUENCE_PREFIX, &hash)
-        }
-        Outcome::Refused(why) => Written::Refused(why),
-    }
+    check_finish(state.total, place, room)?;
+    let hash = sha512::finish(state);
+    Ok(place_identifier(out, place, &SEQUENCE_PREFIX, &hash))
 }

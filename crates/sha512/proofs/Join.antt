@@ -10,7 +10,7 @@ use Rattle.sha512.specs.declared.Running.{Running}
 use Rattle.sha512_block.specs.Constants.{initial}
 use Rattle.sha512_block.specs.Blocks.{hashed, block_size}
 use Rattle.sha512_padding.specs.Padding.{padding}
-use Rattle.sha512_padding.proofs.Padding.{drop-replicate}
+use Rattle.std.proofs.lemmas.List.{drop-replicate, nil_from_length}
 use Rattle.sha512.specs.Message.{rest, sha512}
 use Rattle.sha512.specs.Feeding.{filled, begun, waiting, after, fed, joined, fed_all, finished}
 use Rattle.sha512.proofs.Blocks.{hashed-on, rest-on, hashed-short, rest-short, rest-block, length_rest}
@@ -27,7 +27,7 @@ laid_filled xs ys h =
     ap (λ (k : ℕ). over (over (replicate block_size 0) 0 xs) k ys) (sym (zero-add (length xs)))
     ∙ over-over (replicate block_size 0) 0 xs ys (omega arith)
     ∙ over-front (replicate block_size 0) (xs ++ ys)
-    ∙ ap (λ (l : List ℕ). (xs ++ ys) ++ l) (drop-replicate block_size (length (xs ++ ys)) 0)
+    ∙ ap (λ (l : List ℕ). (xs ++ ys) ++ l) (drop-replicate (length (xs ++ ys)) block_size 0)
 
 pub after_on : (s : Hash) (n : ℕ) (xs ys : List ℕ) → after s n (xs ++ ys) ≡ after (hashed s xs) n (rest xs ++ ys)
 unfolding after
@@ -38,10 +38,10 @@ unfolding filled
 filled-whole xs e = rw e (append-nil xs)
 
 -- the three ways in which a part is taken: from a block's edge, too short for a block, past the block's end
-pub fed-aligned : (r : Running) (p : List ℕ) → r.total % block_size ≡ 0
+pub fed-aligned : (r : Running) (p : List ℕ) → length (waiting r) ≡ 0
     → after r.hash ((r.total + length p) % 2 ^ 64) p ≡ fed r p
-unfolding fed waiting
-fed-aligned r p e = rw e
+unfolding fed
+fed-aligned r p e = rw (nil_from_length (waiting r) e)
 
 pub fed-short : (r : Running) (p : List ℕ) (b : List ℕ) (n : ℕ) → length (waiting r ++ p) < block_size
     → b ≡ filled (waiting r ++ p) → n ≡ (r.total + length p) % 2 ^ 64

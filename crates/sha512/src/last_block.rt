@@ -8,22 +8,18 @@ use super::parts::{begin, feed};
 use sha512_block::{BLOCK_SIZE, absorb};
 use sha512_padding::{hash_bytes, pad};
 
-// The digest of all that was fed. The bytes that wait and the padding make one block or two.
+// The digest of all that was fed. The bytes that wait, the mark and the 16 bytes of the length fill one
+// block or two.
 pub fn finish(state: Running) -> [u8; 64]
     ensures { result ≡ finished state }
 {
-    let waiting = (state.total % BLOCK_SIZE as u64) as usize;
-    let total = state.total;
-    let hash = state.hash;
-    let block = state.block;
-    if waiting < 112 {
-        let mut last = [0u8; BLOCK_SIZE];
-        pad(&mut last, &block[..waiting], total);
-        return hash_bytes(absorb(hash, &last));
-    }
-    let mut last = [0u8; 256];
-    pad(&mut last, &block[..waiting], total);
-    hash_bytes(absorb(hash, &last))
+    let Running { hash, block, total } = state;
+    let waiting = (total % BLOCK_SIZE as u64) as usize;
+    let end = (waiting + 17).next_multiple_of(BLOCK_SIZE);
+    let mut zeros = [0; 2 * BLOCK_SIZE];
+    let last = &mut zeros[..end];
+    pad(last, &block[..waiting], total);
+    hash_bytes(absorb(hash, last))
 }
 
 // The digest of a message that comes whole.

@@ -5,7 +5,6 @@ ghost use Rattle.sha512.specs.Feeding.{filled, begun, after, fed};
 
 use super::Running;
 use sha512_block::{BLOCK_SIZE, Hash, absorb, initial_hash};
-use std::num::wrapping_add_u64;
 use stretch::{copy, copy_at};
 
 pub fn begin() -> Running
@@ -33,10 +32,10 @@ fn fill(head: &[u8], more: &[u8]) -> [u8; BLOCK_SIZE]
 fn feed_aligned(hash: Hash, total: u64, part: &[u8]) -> Running
     ensures { result ≡ after hash total part.now }
 {
-    let whole = part.len() / BLOCK_SIZE * BLOCK_SIZE;
+    let (_, rest) = part.as_chunks::<BLOCK_SIZE>();
     Running {
         hash: absorb(hash, part),
-        block: fill(&part[whole..], b""),
+        block: fill(rest, b""),
         total,
     }
 }
@@ -45,21 +44,21 @@ fn feed_aligned(hash: Hash, total: u64, part: &[u8]) -> Running
 pub fn feed(state: Running, part: &[u8]) -> Running
     ensures { result ≡ fed state part.now }
 {
-    let total = wrapping_add_u64(state.total, part.len() as u64);
-    let waiting = (state.total % BLOCK_SIZE as u64) as usize;
-    let hash = state.hash;
-    if waiting == 0 {
+    let Running { hash, block, total } = state;
+    let waiting = &block[..(total % BLOCK_SIZE as u64) as usize];
+    let total = total.wrapping_add(part.len() as u64);
+    if waiting.is_empty() {
         return feed_aligned(hash, total, part);
     }
-    let block = state.block;
-    let room = BLOCK_SIZE - waiting;
-    if part.len() < room {
-        return Running {
+    match part.split_at_checked(BLOCK_SIZE - waiting.len()) {
+        Some((first, more)) => {
+            let whole = fill(waiting, first);
+            feed_aligned(absorb(hash, &whole), total, more)
+        }
+        None => Running {
             hash,
-            block: fill(&block[..waiting], part),
+            block: fill(waiting, part),
             total,
-        };
+        },
     }
-    let first = fill(&block[..waiting], &part[..room]);
-    feed_aligned(absorb(hash, &first), total, &part[room..])
 }

@@ -1,7 +1,9 @@
 -- The loops of the block step, one turn each.
-use Rattle.std.proofs.Common.{◌≡◌, ℕ, zero, suc, ◌+◌, ◌*◌, ◌<◌, List, length, take, drop, set, sym, ap, ◌∙◌, add-zero}
-use Rattle.std.proofs.Common.{suc-add, add-one, arith, length-append, get_or-take, take-suc-set}
+use Rattle.std.proofs.Common.{◌≡◌, ℕ, ◌+◌, ◌*◌, ◌<◌, List, length, take, set, sym, ap, ◌∙◌}
+use Rattle.std.proofs.Common.{[], get_or, suc-add, add-one, arith, get_or-take, take-suc-set}
+use Rattle.std.specs.Simd.{first_chunks}
 use Rattle.stretch.specs.BigEndian.{big_endian}
+use Rattle.stretch.proofs.Words.{chunk-at}
 use Rattle.sha512_block.specs.declared.Hash.{Hash}
 use Rattle.sha512_block.specs.Block.{block_words, scheduled, schedule, round_at, rounds, compressed}
 use Rattle.sha512_block.specs.Blocks.{absorbed, block_size}
@@ -25,17 +27,12 @@ pub extend-turn : (w m : List ℕ) (t v : ℕ) → t + 16 < length w → take (t
 unfolding schedule
 extend-turn w m t v h e q = rw (add-one, suc-add, take-suc-set, ← e, scheduled-take, q)
 
-pub length-schedule : (t : ℕ) (w : List ℕ) → length (schedule t w) ≡ length w + t
-unfolding schedule
-length-schedule zero w = sym (add-zero (length w))
-length-schedule (suc t) w = length-append (schedule t w) _ ∙ (ap (λ (n : ℕ). n + 1) (length-schedule t w) ∙ omega arith)
-
 pub round-turn : (w : List ℕ) (s₀ s r : Hash) (t u : ℕ) → u ≡ t + 1 → s ≡ rounds t w s₀ → r ≡ round_at t w s
     → r ≡ rounds u w s₀
 unfolding rounds
 round-turn w s₀ s r t u n e q = q ∙ ap (round_at t w) e ∙ ap (λ (k : ℕ). rounds k w s₀) (sym (n ∙ add-one t))
 
-pub absorb-turn : (s₀ s r : Hash) (m : List ℕ) (i : ℕ) → s ≡ absorbed i s₀ m
-    → r ≡ compressed s (take block_size (drop (i * block_size) m)) → r ≡ absorbed (i + 1) s₀ m
+pub absorb-turn : (s₀ s r : Hash) (m : List ℕ) (k i : ℕ) → i < k → s ≡ absorbed i s₀ m
+    → r ≡ compressed s (get_or (first_chunks block_size k m) i []) → r ≡ absorbed (i + 1) s₀ m
 unfolding absorbed
-absorb-turn s₀ s r m i e q = rw (add-one, ← e, q)
+absorb-turn s₀ s r m k i h e q = rw (add-one, ← e, ← chunk-at block_size k i m h, q)

@@ -1,10 +1,10 @@
 // FIPS 180-4, sections 4.2.3 and 5.3.5: the eighty constants and the initial hash value.
 ghost use Rattle.std.specs.Prelude.{◌≡◌};
-ghost use Rattle.sha512_block.specs.Constants.{K, initial};
+ghost use Rattle.sha512_block.specs.Constants.{initial};
 
 use super::Hash;
 
-const ROUND_CONSTANTS: [u64; 80] = [
+pub static ROUND_CONSTANTS: [u64; 80] = [
     0x428a_2f98_d728_ae22,
     0x7137_4491_23ef_65cd,
     0xb5c0_fbcf_ec4d_3b2f,
@@ -86,13 +86,6 @@ const ROUND_CONSTANTS: [u64; 80] = [
     0x5fcb_6fab_3ad6_faec,
     0x6c44_198c_4a47_5817,
 ];
-
-// The table, to be taken once and lent: each mention of the constant writes all of it.
-pub fn round_constants() -> [u64; 80]
-    ensures { result ≡ K }
-{
-    ROUND_CONSTANTS
-}
 
 pub fn initial_hash() -> Hash
     ensures { result ≡ initial }

@@ -12,7 +12,8 @@ pub use constants::initial_hash;
 // The bytes of a block.
 pub const BLOCK_SIZE: usize = 128;
 
-// A hash value of eight words; also a round's eight working variables.
+// A hash value of eight words; also a round's eight working variables. Fields and no array: the standard
+// and the definitions of specs/ go by these letters, and an index is no plainer.
 #[repr(C)]
 #[derive(Clone, Copy)]
 pub struct Hash {

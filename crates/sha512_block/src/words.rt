@@ -2,12 +2,10 @@
 ghost use Rattle.std.specs.Prelude.{◌≡◌};
 ghost use Rattle.sha512_block.specs.Words.{◌⊞◌, Ch, Maj, Σ₀, Σ₁, σ₀, σ₁};
 
-use std::num::wrapping_add_u64;
-
 pub fn add(x: u64, y: u64) -> u64
     ensures { result ≡ x ⊞ y }
 {
-    wrapping_add_u64(x, y)
+    x.wrapping_add(y)
 }
 
 pub fn choose(x: u64, y: u64, z: u64) -> u64
@@ -22,26 +20,28 @@ pub fn majority(x: u64, y: u64, z: u64) -> u64
     (x & y) ^ (x & z) ^ (y & z)
 }
 
+// The four sigmas are functions of their own, as the standard has them: one over its constants would be called by three
+// numbers in the place of a name.
 pub fn big_sigma_0(x: u64) -> u64
     ensures { result ≡ Σ₀ x }
 {
-    (x >> 28 | x << 36) ^ (x >> 34 | x << 30) ^ (x >> 39 | x << 25)
+    x.rotate_right(28) ^ x.rotate_right(34) ^ x.rotate_right(39)
 }
 
 pub fn big_sigma_1(x: u64) -> u64
     ensures { result ≡ Σ₁ x }
 {
-    (x >> 14 | x << 50) ^ (x >> 18 | x << 46) ^ (x >> 41 | x << 23)
+    x.rotate_right(14) ^ x.rotate_right(18) ^ x.rotate_right(41)
 }
 
 pub fn small_sigma_0(x: u64) -> u64
     ensures { result ≡ σ₀ x }
 {
-    (x >> 1 | x << 63) ^ (x >> 8 | x << 56) ^ (x >> 7)
+    x.rotate_right(1) ^ x.rotate_right(8) ^ (x >> 7)
 }
 
 pub fn small_sigma_1(x: u64) -> u64
     ensures { result ≡ σ₁ x }
 {
-    (x >> 19 | x << 45) ^ (x >> 61 | x << 3) ^ (x >> 6)
+    x.rotate_right(19) ^ x.rotate_right(61) ^ (x >> 6)
 }

@@ -1,13 +1,13 @@
 -- Numbers and their bytes.
-use Prim.Native.Nat.{ℕ, zero, suc, ◌+◌, ◌-◌, ◌*◌, ◌/◌, ◌%◌, ◌<◌, ◌≤◌}
-use native.Mathlib.Omega.{arith}
-use native.Mathlib.Numerals.{add-one}
-use mathlib.Core.Path.{◌≡◌, refl, ap, ◌∙◌}
-use mathlib.Core.List.{List, [], ◌∷◌, ◌++◌, append_assoc}
-use lib.ListN.{length, get_or, take, drop, set, length-append, length-drop, length-set}
-use lib.Seq.{length-take-le, drop-cons, drop-set-lt, get_or-set_same}
+use Rattle.std.proofs.Common.{◌≡◌, ◌∙◌, ℕ, zero, suc, ◌+◌, ◌*◌, ◌/◌, ◌%◌, ◌<◌, List, [], ◌∷◌, ◌++◌}
+use Rattle.std.proofs.Common.{length, get_or, take, refl, sym, ap, arith, add-one, length-append, append_assoc}
+use Rattle.std.proofs.Common.{append-nil}
+use Rattle.std.proofs.Math.Nat.{div-div-eq-div-mul, pow-succ'}
+use Rattle.std.proofs.lemmas.List.{take_more, flat_map_more, length-take-le}
+use Rattle.std.specs.Int.{byte_at, bytes_high_first}
+use Rattle.std.specs.List.{flat_map}
 use Rattle.stretch.specs.Over.{over}
-use Rattle.stretch.proofs.Over.{over-next, set-over, length_over}
+use Rattle.stretch.proofs.Over.{over-next, over-all}
 use Rattle.sha512_block.specs.declared.Hash.{Hash}
 use Rattle.sha512_padding.specs.Padding.{bytes_of, four_words, hash_bytes}
 
@@ -16,56 +16,38 @@ unfolding bytes_of
 length-bytes_of zero x = refl
 length-bytes_of (suc n) x = rw (length-append, length-bytes_of n (x / 256)) (add-one n)
 
--- one more byte of a number is written, from the last to the first
-pub write-turn : (whole l : List ℕ) (i x : ℕ) → 0 < i → i ≤ length l → whole ≡ bytes_of i x ++ drop i l
-    → whole ≡ bytes_of (i - 1) (x / 256) ++ drop (i - 1) (set l (i - 1) (x % 256))
+-- the machine's bytes of a number are the standard's
+next-byte : (k x : ℕ) → byte_at (suc k) x ≡ byte_at k (x / 256)
+next-byte zero x = refl
+next-byte (suc k) x = rw (pow-succ' 256 (suc k), div-div-eq-div-mul)
+
+last-byte : (k x : ℕ) → bytes_high_first (suc k) x ≡ bytes_high_first k (x / 256) ++ (x % 256 ∷ [])
+last-byte zero x = refl
+last-byte (suc k) x = rw (next-byte k x, last-byte k x)
+
+pub high_first : (k x : ℕ) → bytes_high_first k x ≡ bytes_of k x
 unfolding bytes_of
-write-turn whole l zero x p h e = absurd (omega arith)
-write-turn whole l (suc i) x p h e =
-    let d : suc i - 1 ≡ i = omega arith in
-    let k : i < length (set l i (x % 256)) = simp length-set (omega arith) in
-    rw (
-      d,
-      drop-cons (set l i (x % 256)) i 0 k,
-      get_or-set_same l i (x % 256) 0 (omega arith),
-      drop-set-lt (suc i) l i (x % 256) (omega arith),
-    )
-    (e ∙ append_assoc (bytes_of i (x / 256)) (x % 256 ∷ []) (drop (suc i) l))
+high_first zero x = refl
+high_first (suc k) x = rw (last-byte k x, high_first k (x / 256))
 
--- a part of a list that is filled with a number's bytes and comes back
-pub put-number : (l : List ℕ) (place n m x : ℕ) → m ≡ n → place + n ≤ length l
-    → take place l ++ (bytes_of (length (take m (drop place l))) x ++ drop m (drop place l))
-    ≡ over l place (bytes_of n x)
-unfolding over
-put-number l place n m x e h =
-    let k : n ≤ length (drop place l) = simp length-drop (omega arith) in
-    rw (e, length-take-le n (drop place l) k, length-bytes_of)
+-- one more word is written
+length-words : (ws : List ℕ) → length (flat_map (bytes_of 8) ws) ≡ length ws * 8
+length-words [] = refl
+length-words (w ∷ ws) = rw (length-append, length-bytes_of, length-words ws) (omega arith)
 
--- four words after one another
-pub put-words : (l : List ℕ) (p a b c d : ℕ) → p ≤ length l
-    → over (over (over (over l p (bytes_of 8 a)) (p + 8) (bytes_of 8 b)) (p + 16) (bytes_of 8 c)) (p + 24)
-    (bytes_of 8 d)
-    ≡ over l p (four_words a b c d)
-unfolding four_words
-put-words l p a b c d h =
-    rw (
-      over-next l p (p + 8) (bytes_of 8 a) (bytes_of 8 b) h (simp length-bytes_of),
-      over-next l p (p + 16) (bytes_of 8 a ++ bytes_of 8 b) (bytes_of 8 c) h (simp (length-append, length-bytes_of)),
-      over-next l p (p + 24) ((bytes_of 8 a ++ bytes_of 8 b) ++ bytes_of 8 c) (bytes_of 8 d) h
-          (simp (length-append, length-bytes_of)),
-      append_assoc,
-      append_assoc,
-    )
+pub word-turn : (l ws : List ℕ) (i : ℕ) → i < length ws
+    → over (over l 0 (flat_map (bytes_of 8) (take i ws))) (i * 8) (bytes_of 8 (get_or ws i 0))
+    ≡ over l 0 (flat_map (bytes_of 8) (take (i + 1) ws))
+word-turn l ws i h =
+    over-next l 0 (i * 8) _ _ (omega arith) (rw (length-words, length-take-le i ws (omega arith)) (omega arith))
+    ∙ ap (over l 0) (flat_map_more (bytes_of 8) [] (take i ws) (get_or ws i 0) ∙ rw (take_more ws i 0 h))
 
-pub length-four_words : (a b c d : ℕ) → length (four_words a b c d) ≡ 32
-unfolding four_words
-length-four_words a b c d = simp (length-append, length-bytes_of)
+pub words-all : (l : List ℕ) (s : Hash) → length l ≡ 64
+    → over l 0 (flat_map (bytes_of 8) (s.a ∷ s.b ∷ s.c ∷ s.d ∷ s.e ∷ s.f ∷ s.g ∷ s.h ∷ [])) ≡ hash_bytes s
+unfolding hash_bytes four_words
+words-all l s n = over-all l _ (simp (length-append, length-bytes_of) (sym n)) ∙ simp (append_assoc, append-nil)
 
-pub length-hash_bytes : (s : Hash) → length (hash_bytes s) ≡ 64
-unfolding hash_bytes
-length-hash_bytes s = simp (length-append, length-four_words)
-
--- every byte of it is below 256, as every byte of a number is
+-- every byte of a hash value is below 256, as every byte of a number is
 bytes-append : (xs ys : List ℕ) → ((i : ℕ) → get_or xs i 0 < 256) → ((i : ℕ) → get_or ys i 0 < 256) → (i : ℕ)
     → get_or (xs ++ ys) i 0 < 256
 bytes-append [] ys f g i = g i
@@ -93,25 +75,6 @@ unfolding hash_bytes
 hash_bytes-bytes s = bytes-append (four_words _ _ _ _) (four_words _ _ _ _) (four_words-bytes _ _ _ _)
     (four_words-bytes _ _ _ _)
 
--- the bytes of a count of bits, from the count of bytes
-bits-bytes : (k n : ℕ) → bytes_of k (n / 32) ++ (n % 32 * 8 ∷ []) ≡ bytes_of (suc k) (n * 8)
-unfolding bytes_of
-bits-bytes k n =
-    let q : n * 8 / 256 ≡ n / 32 = omega arith in
-    let r : n * 8 % 256 ≡ n % 32 * 8 = omega arith in
-    rw (q, r)
-
-pub put-bits : (l : List ℕ) (m n : ℕ) → 16 ≤ length l → m ≡ 15
-    → set (take (length l - 16) l
-    ++ (bytes_of (length (take m (drop (length l - 16) l))) (n / 32) ++ drop m (drop (length l - 16) l)))
-    (length l - 1) (n % 32 * 8)
-    ≡ over l (length l - 16) (bytes_of 16 (n * 8))
-put-bits l m n h e =
-    let p = length l - 16 in
-    let fits : length (bytes_of 15 (n / 32)) ≡ 15 = length-bytes_of 15 (n / 32) in
-    let long : length (over l p (bytes_of 15 (n / 32))) ≡ length l =
-    length_over l p (bytes_of 15 (n / 32)) (omega arith) in
-    ap (λ (k : List ℕ). set k (length l - 1) (n % 32 * 8)) (put-number l p 15 m (n / 32) e (omega arith))
-    ∙ set-over (over l p (bytes_of 15 (n / 32))) (length l - 1) (n % 32 * 8) (omega arith)
-    ∙ over-next l p (length l - 1) (bytes_of 15 (n / 32)) (n % 32 * 8 ∷ []) (omega arith) (omega arith)
-    ∙ ap (λ (k : List ℕ). over l p k) (bits-bytes 15 n)
+pub length-hash_bytes : (s : Hash) → length (hash_bytes s) ≡ 64
+unfolding hash_bytes four_words
+length-hash_bytes s = simp (length-append, length-bytes_of)

@@ -1,25 +1,15 @@
 -- The padding, laid over zeros.
-use Prim.Native.Nat.{ℕ, zero, suc, ◌+◌, ◌-◌, ◌*◌, ◌%◌}
+use Prim.Native.Nat.{ℕ, ◌+◌, ◌-◌, ◌*◌, ◌%◌}
 use native.Mathlib.Omega.{arith}
 use mathlib.Core.Path.{◌≡◌, ap, ◌∙◌}
 use mathlib.Core.List.{List, [], ◌∷◌, ◌++◌, append_assoc}
-use lib.ListN.{length, set, drop, replicate, length-append, length-set, length-replicate, replicate-append-replicate}
+use lib.ListN.{length, set, replicate, length-append, length-replicate, replicate-append-replicate}
+use Rattle.std.proofs.lemmas.List.{drop-replicate}
 use Rattle.sha512_block.specs.Blocks.{block_size}
 use Rattle.stretch.specs.Over.{over}
 use Rattle.stretch.proofs.Over.{over-front, over-next, over-end, set-over, length_over}
 use Rattle.sha512_padding.specs.Padding.{bytes_of, padding}
 use Rattle.sha512_padding.proofs.Numbers.{length-bytes_of}
-
-pub drop-replicate : (k n a : ℕ) → drop n (replicate k a) ≡ replicate (k - n) a
-drop-replicate k zero a =
-    let e : k - 0 ≡ k = omega arith in
-    rw e
-drop-replicate zero (suc n) a =
-    let e : 0 - suc n ≡ 0 = omega arith in
-    rw e
-drop-replicate (suc k) (suc n) a =
-    let e : suc k - suc n ≡ k - n = omega arith in
-    rw e (drop-replicate k n a)
 
 -- zeros with one stretch at their front and another at their end
 over_zeros : (h t : List ℕ) (n k p : ℕ) → n ≡ length h + (k + length t) → p ≡ length h + k
@@ -28,7 +18,12 @@ over_zeros h t n k p e q =
     let d : n - length h ≡ k + length t = omega arith in
     let f : over (replicate n 0) 0 h ≡ (h ++ replicate k 0) ++ replicate (length t) 0 =
     over-front (replicate n 0) h
-    ∙ rw (drop-replicate n (length h) 0, d, ← replicate-append-replicate {A = ℕ} k (length t) 0, append_assoc) in
+    ∙ rw (
+      drop-replicate {X = ℕ} (length h) n 0,
+      d,
+      ← replicate-append-replicate {A = ℕ} k (length t) 0,
+      append_assoc,
+    ) in
     rw (
       f,
       over-end (h ++ replicate k 0) (replicate (length t) 0) t p (simp (length-append, length-replicate) q)
@@ -46,26 +41,24 @@ pub zeros-for : (head : List ℕ) (n k : ℕ) → length head ≡ n % block_size
     → replicate {A = ℕ} k 0 ≡ replicate (length head + length (padding n)) 0
 zeros-for head n k e q = rw (length-padding, e, q)
 
-pub pad-laid : (zeros head : List ℕ) (n : ℕ) → zeros ≡ replicate (length head + length (padding n)) 0
-    → length head ≡ n % block_size
-    → over (set (over zeros 0 head) (length head) 0x80) (length (set (over zeros 0 head) (length head) 0x80) - 16)
-    (bytes_of 16 (n * 8)) ≡ head ++ padding n
-unfolding padding
-pad-laid zeros head n z e =
-    let long : length zeros ≡ length head + length (padding n) = ap length z
-    ∙ length-replicate (length head + length (padding n)) 0 in
-    let count : length (padding n) ≡ 17 + (239 - n % block_size) % block_size = length-padding n in
-    let kept : length (over zeros 0 head) ≡ length zeros = length_over zeros 0 head (omega arith) in
-    let set-kept : length (set (over zeros 0 head) (length head) 0x80) ≡ length (over zeros 0 head) =
-    length-set (over zeros 0 head) (length head) 0x80 in
-    let bits : length (bytes_of 16 (n * 8)) ≡ 16 = length-bytes_of 16 (n * 8) in
-    let marked : length (head ++ (0x80 ∷ [])) ≡ length head + 1 = length-append head (0x80 ∷ []) in
-    let p = length (set (over zeros 0 head) (length head) 0x80) - 16 in
-    ap (λ (l : List ℕ). over l p (bytes_of 16 (n * 8)))
-    (set-over (over zeros 0 head) (length head) 0x80 (omega arith)
-    ∙ over-next zeros 0 (length head) head (0x80 ∷ []) (omega arith) (omega arith)
-    ∙ ap (λ (l : List ℕ). over l 0 (head ++ (0x80 ∷ []))) z)
-    ∙ over_zeros (head ++ (0x80 ∷ [])) (bytes_of 16 (n * 8)) (length head + length (padding n))
-    ((239 - n % block_size) % block_size)
-    p (omega arith) (omega arith)
-    ∙ append_assoc head (0x80 ∷ []) (replicate ((239 - n % block_size) % block_size) 0 ++ bytes_of 16 (n * 8))
+-- the zeros, the bytes that wait, the mark and the count of bits
+module _ (zeros head : List ℕ) (n : ℕ) (z : zeros ≡ replicate (length head + length (padding n)) 0) where
+  pub zeros-long : length zeros ≡ length head + (17 + (239 - n % block_size) % block_size)
+  zeros-long = ap length z ∙ length-replicate _ _ ∙ rw length-padding
+
+  pub pad-laid : (p : ℕ) → p ≡ length zeros - 16
+      → over (set (over zeros 0 head) (length head) 0x80) p (bytes_of 16 (n * 8)) ≡ head ++ padding n
+  unfolding padding
+  pad-laid p e =
+      let long = zeros-long in
+      let kept : length (over zeros 0 head) ≡ length zeros = length_over zeros 0 head (omega arith) in
+      let bits : length (bytes_of 16 (n * 8)) ≡ 16 = length-bytes_of 16 (n * 8) in
+      let marked : length (head ++ (0x80 ∷ [])) ≡ length head + 1 = length-append head (0x80 ∷ []) in
+      ap (λ (l : List ℕ). over l p (bytes_of 16 (n * 8)))
+      (set-over (over zeros 0 head) (length head) 0x80 (omega arith)
+      ∙ over-next zeros 0 (length head) head (0x80 ∷ []) (omega arith) (omega arith)
+      ∙ ap (λ (l : List ℕ). over l 0 (head ++ (0x80 ∷ []))) z)
+      ∙ over_zeros (head ++ (0x80 ∷ [])) (bytes_of 16 (n * 8)) (length head + length (padding n))
+      ((239 - n % block_size) % block_size)
+      p (omega (arith, length-padding n)) (omega arith)
+      ∙ append_assoc head (0x80 ∷ []) (replicate ((239 - n % block_size) % block_size) 0 ++ bytes_of 16 (n * 8))

@@ -2,7 +2,6 @@
 // 64 bytes of a digest. Crate `sha512` stands on it. specs/Padding.antt has the standard's sentences.
 #![tactic(auto)]
 
-mod big_endian;
 mod last_block;
 
 pub use last_block::{hash_bytes, pad};

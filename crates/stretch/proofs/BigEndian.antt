@@ -1,40 +1,27 @@
 -- Words and the bytes they are read from.
-use Prim.Native.Nat.{ℕ, zero, suc, ◌+◌, ◌*◌, ◌^◌, ◌<◌, ◌≤◌}
-use native.Mathlib.Nat.{add-zero, zero-add, add_assoc}
+use Prim.Native.Nat.{ℕ, ◌+◌, ◌<◌}
 use native.Mathlib.Omega.{arith}
-use mathlib.Core.Path.{◌≡◌, refl}
+use mathlib.Core.Path.{◌≡◌, ◌∙◌, ap}
 use mathlib.Core.List.{List}
-use lib.ListN.{length, get_or, take, drop, length-drop}
-use lib.Seq.{take-suc, get_or-drop}
+use lib.ListN.{get_or, take, drop}
+use lib.Seq.{get_or-take, get_or-drop}
+use Rattle.std.specs.Int.{w64, from_be_bytes}
 use Rattle.stretch.specs.BigEndian.{big_endian}
 
-pub big_endian-four : (m : List ℕ) (i : ℕ)
-    → big_endian 4 m i ≡ ((get_or m i 0 * 256 + get_or m (i + 1) 0) * 256 + get_or m (i + 2) 0) * 256
-    + get_or m (i + 3) 0
+-- the eight bytes of a word that is cut out
+pub from-word : (w m : List ℕ) (i : ℕ) → w ≡ take 8 (drop i m) → from_be_bytes w64 w ≡ big_endian 8 m i
 unfolding big_endian
-big_endian-four m i = simp (add-zero, zero-add)
-
-pub big_endian-eight : (m : List ℕ) (i : ℕ) → big_endian 8 m i ≡ big_endian 4 m i * 2 ^ 32 + big_endian 4 m (i + 4)
-unfolding big_endian
-big_endian-eight m i = simp (add_assoc, add-zero) (omega arith)
-
--- equal words are read from equal bytes
-pub big_endian-same : (n : ℕ) (a b : List ℕ) (i j : ℕ) → i + n ≤ length a → j + n ≤ length b
-    → ((k : ℕ) → get_or a k 0 < 256) → ((k : ℕ) → get_or b k 0 < 256) → big_endian n a i ≡ big_endian n b j
-    → take n (drop i a) ≡ take n (drop j b)
-unfolding big_endian
-big_endian-same zero a b i j h g ba bb e = refl
-big_endian-same (suc n) a b i j h g ba bb e =
-    let x : get_or a (i + n) 0 < 256 = ba (i + n) in
-    let y : get_or b (j + n) 0 < 256 = bb (j + n) in
-    let last : get_or a (i + n) 0 ≡ get_or b (j + n) 0 = omega arith in
-    let front : take n (drop i a) ≡ take n (drop j b) =
-    big_endian-same n a b i j (omega arith) (omega arith) ba bb (omega arith) in
-    rw (
-      take-suc (drop i a) n 0 (simp length-drop (omega arith)),
-      take-suc (drop j b) n 0 (simp length-drop (omega arith)),
-      get_or-drop i a n 0,
-      get_or-drop j b n 0,
-      front,
-      last,
+from-word w m i e =
+    let at : (k : ℕ) → k < 8 → get_or w k 0 ≡ get_or m (i + k) 0
+    = λ k h. ap (λ (l : List ℕ). get_or l k 0) e ∙ get_or-take 8 (drop i m) k 0 h ∙ get_or-drop i m k 0 in
+    omega (
+      arith,
+      at 0 (omega arith),
+      at 1 (omega arith),
+      at 2 (omega arith),
+      at 3 (omega arith),
+      at 4 (omega arith),
+      at 5 (omega arith),
+      at 6 (omega arith),
+      at 7 (omega arith),
     )

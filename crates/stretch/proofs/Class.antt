@@ -1,12 +1,10 @@
 -- Stretches all of whose bytes are in a class.
-use Prim.Native.Nat.{ℕ, suc, zero, ◌+◌, ◌<◌, ◌≤◌}
+use Prim.Native.Nat.{ℕ, suc, zero, ◌<◌}
 use native.Mathlib.Nat.{le_of_suc-le-suc, not-suc-le-zero}
-use native.Mathlib.Numerals.{add-one}
 use mathlib.Core.Path.{◌≡◌, refl}
-use mathlib.Core.Bool.{Bool, true, false, cond, ◌&&◌}
+use mathlib.Core.Bool.{Bool, true, false, cond}
 use mathlib.Core.List.{List, [], ◌∷◌, ◌++◌}
-use lib.ListN.{length, get_or, drop, drop_of_length-le}
-use lib.Seq.{drop-cons}
+use lib.ListN.{length, get_or}
 use Rattle.stretch.specs.Class.{every}
 use Rattle.stretch.proofs.Cases.{by_cases}
 
@@ -27,18 +25,6 @@ module _ (p : ℕ → Bool) where
   every-at (x ∷ s) zero h l = by_cases (p x) (λ e. e) (λ e. cc (rw e at h))
   every-at (x ∷ s) (suc i) h l =
       by_cases (p x) (λ e. every-at s i (rw e at h) (le_of_suc-le-suc l)) (λ e. cc (rw e at h))
-
-  -- a turn of a loop that has found `so_far` of the bytes before i
-  pub every-on : (s : List ℕ) (i : ℕ) (so_far : Bool) → i < length s
-      → cond so_far (every p (drop i s)) false ≡ cond (so_far && p (get_or s i 0)) (every p (drop (i + 1) s)) false
-  unfolding every
-  every-on s i true h = rw (add-one, drop-cons s i 0)
-  every-on s i false h = refl
-
-  pub every-end : (s : List ℕ) (i : ℕ) (so_far : Bool) → length s ≤ i → cond so_far (every p (drop i s)) false ≡ so_far
-  unfolding every
-  every-end s i true h = rw (drop_of_length-le s {i = i} h)
-  every-end s i false h = refl
 
 -- a class within another
 pub every-weaken : (p q : ℕ → Bool) → ((b : ℕ) → p b ≡ true → q b ≡ true) → (s : List ℕ) → every p s ≡ true

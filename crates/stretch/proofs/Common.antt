@@ -5,7 +5,7 @@ use native.Mathlib.Omega.{arith}
 use mathlib.Core.Path.{◌≡◌, refl, ◌∙◌, sym, ap}
 use mathlib.Core.List.{List, [], ◌∷◌, ◌++◌}
 use lib.Dec.{eqb, eqb-suc-suc, eqb-zero-suc}
-use lib.ListN.{length, get_or, take, drop, length-drop, take-append-drop, drop_of_length-le}
+use lib.ListN.{length, get_or, take, drop, length-drop, take-append-drop}
 use lib.Seq.{drop-cons, drop-drop, length-take-le, take-length}
 use borrow.Author.Tests.{eq-eqb, ne_eqb, eqb-true, eqb-false}
 use Rattle.stretch.specs.Common.{lcp}
@@ -87,7 +87,7 @@ same-lcp (x ∷ a) (y ∷ b) h =
     (λ e. rw e (same-lcp a b (omega arith) ∙ sym (eqb-suc-suc (lcp a b) (length a))))
     (λ e. rw e (sym (eqb-zero-suc (length a))))
 
--- a loop that has passed i elements: the next n are the same, or the next one is another, or there is none
+-- a loop that has passed i elements: the next n are the same, or the next one is another
 module _ (a b : List ℕ) (i : ℕ) where
   pub lcp-on : (n : ℕ) → i + n ≤ length a → i + n ≤ length b → take n (drop i a) ≡ take n (drop i b)
       → lcp a b ≡ i + lcp (drop i a) (drop i b) → lcp a b ≡ i + n + lcp (drop (i + n) a) (drop (i + n) b)
@@ -105,13 +105,6 @@ module _ (a b : List ℕ) (i : ℕ) where
       → lcp a b ≡ i + lcp (drop i a) (drop i b)
       → lcp a b ≡ i
   lcp-here h g n inv = inv ∙ rw (drop-cons a i 0 h, drop-cons b i 0 g, lcp-heads _ _ _ _ n) (add-zero i)
-
-  pub lcp-end-left : length a ≤ i → lcp a b ≡ i + lcp (drop i a) (drop i b) → lcp a b ≡ i
-  unfolding lcp
-  lcp-end-left h inv = inv ∙ rw (drop_of_length-le a {i = i} h) (add-zero i)
-
-  pub lcp-end-right : length b ≤ i → lcp a b ≡ i + lcp (drop i a) (drop i b) → lcp a b ≡ i
-  lcp-end-right h inv = inv ∙ rw (drop_of_length-le b {i = i} h, lcp-nil (drop i a)) (add-zero i)
 
 -- the next element alone
 pub take-one : (a b : List ℕ) (i j : ℕ) → i < length a → j < length b → get_or a i 0 ≡ get_or b j 0

@@ -4,6 +4,7 @@ pub mod Cases
 pub mod Class
 pub mod Common
 pub mod Every
+pub mod FromEnd
 pub mod Interval
 pub mod Join
 pub mod Outside
@@ -13,4 +14,5 @@ pub mod Shared
 pub mod Suffix
 pub mod Tail
 pub mod Through
+pub mod Words
 pub mod Wrote

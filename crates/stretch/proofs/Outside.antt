@@ -1,16 +1,14 @@
 -- The first byte outside a class: its bound, what holds before it, and appended stretches.
-use Prim.Native.Nat.{ℕ, suc, ◌+◌, ◌-◌, ◌<◌, ◌≤◌}
-use native.Mathlib.Nat.{le_of_suc-le-suc, not-suc-le-zero, zero-add, add-sub_cancel_left}
-use native.Mathlib.Numerals.{add-one}
+use Prim.Native.Nat.{ℕ, suc, ◌+◌, ◌<◌, ◌≤◌}
+use native.Mathlib.Nat.{le_of_suc-le-suc, not-suc-le-zero, zero-add}
 use native.Mathlib.Omega.{arith}
 use mathlib.Core.Path.{◌≡◌, refl, ◌∙◌, sym, ap}
-use mathlib.Core.Bool.{Bool, true, false}
+use mathlib.Core.Bool.{Bool, true}
 use mathlib.Core.List.{List, [], ◌∷◌, ◌++◌}
-use lib.ListN.{length, get_or, take, drop, length-drop, take-append-drop, drop_of_length-le}
-use lib.Seq.{drop-cons, drop-drop, length-take-le}
+use lib.ListN.{length, take, drop, take-append-drop}
+use lib.Seq.{length-take-le}
 use Rattle.stretch.specs.Class.{every, first_outside}
 use Rattle.stretch.proofs.Cases.{by_cases}
-use Rattle.stretch.proofs.Tail.{lent-tail}
 
 module _ (p : ℕ → Bool) where
   pub first_outside-le : (s : List ℕ) → first_outside p s ≤ length s
@@ -57,45 +55,3 @@ module _ (p : ℕ → Bool) where
       let split : first_outside p s ≡ length (take j s) + first_outside p (drop j s)
       = ap (first_outside p) (sym (take-append-drop j s)) ∙ first_outside-past (take j s) (drop j s) e in
       omega (arith, length-take-le j s h)
-
-  -- a loop that has passed i bytes: the next is inside, or outside, or there is none
-  pub first_outside-on : (s : List ℕ) (i : ℕ) → i < length s → p (get_or s i 0) ≡ true
-      → first_outside p s ≡ i + first_outside p (drop i s)
-      → first_outside p s ≡ i + 1 + first_outside p (drop (i + 1) s)
-  unfolding first_outside
-  first_outside-on s i h e inv = inv ∙ rw (add-one, drop-cons s i 0, e) (omega arith)
-
-  pub first_outside-here : (s : List ℕ) (i : ℕ) → i < length s → p (get_or s i 0) ≡ false
-      → first_outside p s ≡ i + first_outside p (drop i s) → first_outside p s ≡ i
-  unfolding first_outside
-  first_outside-here s i h e inv = inv ∙ rw (drop-cons s i 0, e) (omega arith)
-
-  pub first_outside-end : (s : List ℕ) (i : ℕ) → i ≡ length s
-      → first_outside p s ≡ i + first_outside p (drop i s) → first_outside p s ≡ i
-  unfolding first_outside
-  first_outside-end s i h inv = inv ∙ rw (drop_of_length-le s {i = i} (omega arith)) (omega arith)
-
-  -- n bytes at a time, as the code cuts them out
-  pub first_outside-block : (s : List ℕ) (i n : ℕ) → i + n ≤ length s → every p (take (i + n - i) (drop i s)) ≡ true
-      → first_outside p s ≡ i + first_outside p (drop i s)
-      → first_outside p s ≡ i + n + first_outside p (drop (i + n) s)
-  first_outside-block s i n h e inv =
-      let room : n ≤ length (drop i s) = simp length-drop (omega arith) in
-      let next : first_outside p (drop i s) ≡ n + first_outside p (drop (i + n) s)
-      = ap (first_outside p) (sym (take-append-drop n (drop i s)))
-      ∙ first_outside-past (take n (drop i s)) (drop n (drop i s)) (rw (add-sub_cancel_left i n) at e)
-      ∙ rw (length-take-le n (drop i s) room, drop-drop) in
-      omega arith
-
-  -- and all that is left, as the code lends it
-  pub first_outside-rest : (s : List ℕ) (i : ℕ) → i ≤ length s → every p (take (length s - i) (drop i s)) ≡ true
-      → first_outside p s ≡ i + first_outside p (drop i s)
-      → first_outside p s ≡ length s + first_outside p (drop (length s) s)
-  unfolding first_outside
-  first_outside-rest s i h e inv =
-      inv
-      ∙ rw (
-        first_outside-every (drop i s) (rw (lent-tail s i) at e),
-        length-drop i s,
-        drop_of_length-le s {i = length s} (omega arith),
-      ) (omega arith)

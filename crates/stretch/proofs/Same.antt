@@ -6,6 +6,7 @@ use mathlib.Core.List.{List, [], ◌∷◌}
 use lib.Dec.{eqb}
 use lib.ListN.{length}
 use borrow.Author.Tests.{eq-eqb, eqb-true}
+use Rattle.std.specs.Cmp.Lexicographic.{pointwise}
 use Rattle.stretch.specs.Same.{same}
 use Rattle.stretch.proofs.Cases.{by_cases}
 
@@ -34,3 +35,11 @@ same-unlike a b n = by_cases (same a b) (λ e. absurd (n (same-eq a b e))) (λ e
 
 pub same-lengths : (a b : List ℕ) → (length a ≡ length b → ⊥) → same a b ≡ false
 same-lengths a b n = same-unlike a b (λ e. n (ap length e))
+
+-- it is what `==` tests
+pub same-pointwise : (a b : List ℕ) → pointwise eqb a b ≡ same a b
+unfolding same
+same-pointwise [] [] = refl
+same-pointwise [] (y ∷ b) = refl
+same-pointwise (x ∷ a) [] = refl
+same-pointwise (x ∷ a) (y ∷ b) = by_cases (eqb x y) (λ e. rw (e, same-pointwise a b)) (λ e. rw e)

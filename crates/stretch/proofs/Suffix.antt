@@ -1,13 +1,12 @@
 -- How far two stretches agree from the back: the laws of Common over the reversed stretches.
-use Prim.Native.Nat.{ℕ, suc, ◌+◌, ◌-◌, ◌<◌, ◌≤◌}
-use native.Mathlib.Nat.{add-zero, zero-add}
+use Prim.Native.Nat.{ℕ, ◌+◌, ◌-◌, ◌<◌, ◌≤◌}
 use native.Mathlib.Omega.{arith}
 use mathlib.Core.Path.{◌≡◌, ◌∙◌, sym, ap}
-use mathlib.Core.List.{List, [], ◌∷◌, ◌++◌, reverse, reverse-append, reverse-reverse}
-use lib.ListN.{length, get_or, take, drop, length-drop, length-reverse, take-append-drop}
-use lib.Seq.{take-suc, take-add, take_at, drop_at, length-take-le, take_all}
+use mathlib.Core.List.{List, ◌++◌, reverse, reverse-append, reverse-reverse}
+use lib.ListN.{length, take, drop, length-drop, length-reverse, take-append-drop}
+use lib.Seq.{take_at, drop_at}
 use Rattle.stretch.specs.Common.{lcp, lcs}
-use Rattle.stretch.proofs.Common.{lcp-nil, lcp-comm, lcp-le-left, lcp-take, lcp-past, lcp-heads, lcp-within}
+use Rattle.stretch.proofs.Common.{lcp-comm, lcp-le-left, lcp-take, lcp-past, lcp-within}
 use Rattle.stretch.proofs.Common.{lcp-through}
 
 -- the reverse of a front and of a tail
@@ -35,10 +34,6 @@ lcs-le-left xs ys = rw (← length-reverse xs) (lcp-le-left (reverse xs) (revers
 
 pub lcs-le-right : (xs ys : List ℕ) → lcs xs ys ≤ length ys
 lcs-le-right xs ys = rw (lcs-comm xs ys) (lcs-le-left ys xs)
-
-pub lcs-nil : (xs : List ℕ) → lcs xs [] ≡ 0
-unfolding lcs
-lcs-nil xs = lcp-nil (reverse xs)
 
 -- the last elements, as many as are shared, are the same
 pub lcs-drop : (xs ys : List ℕ) (i : ℕ) → i ≤ lcs xs ys → drop (length xs - i) xs ≡ drop (length ys - i) ys
@@ -74,59 +69,3 @@ lcs-through xs ys zs h =
     ap (lcp (reverse xs)) (reverse-append zs ys)
     ∙ lcp-through (reverse xs) (reverse ys) (reverse zs) (omega arith)
     ∙ rw (long, drop-reverse xs (length xs - length ys) (length ys) (omega arith))
-
-pub lcs-begin : (a b : List ℕ) → lcs a b ≡ 0 + lcs (take (length a - 0) a) (take (length b - 0) b)
-lcs-begin a b = rw (take_all (length a - 0) a (omega arith), take_all (length b - 0) b (omega arith))
-    (sym (zero-add (lcs a b)))
-
--- a loop that has passed i elements from the back: the next n are the same, or the next one is another, or there is
--- none
-module _ (a b : List ℕ) (i : ℕ) where
-  pub lcs-on : (n : ℕ) → i + n ≤ length a → i + n ≤ length b
-      → take n (drop (length a - i - n) a) ≡ take n (drop (length b - i - n) b)
-      → lcs a b ≡ i + lcs (take (length a - i) a) (take (length b - i) b)
-      → lcs a b ≡ i + n + lcs (take (length a - (i + n)) a) (take (length b - (i + n)) b)
-  lcs-on n h g e inv =
-      let room : n ≤ length (drop (length b - i - n) b) = simp length-drop (omega arith) in
-      let split : (l : List ℕ) → i + n ≤ length l → length l - i ≡ length l - i - n + n = λ l k. omega arith in
-      let less : (l : List ℕ) → i + n ≤ length l → length l - i - n ≡ length l - (i + n) = λ l k. omega arith in
-      let next : lcs (take (length a - i) a) (take (length b - i) b) ≡ n
-      + lcs (take (length a - (i + n)) a) (take (length b - (i + n)) b)
-      = ap (λ (k : ℕ). lcs (take k a) (take (length b - i) b)) (split a h)
-      ∙ ap (λ (k : ℕ). lcs (take (length a - i - n + n) a) (take k b)) (split b g)
-      ∙ rw (
-        take-add (length a - i - n) n a,
-        take-add (length b - i - n) n b,
-        e,
-        lcs-past (take (length a - i - n) a) (take (length b - i - n) b) (take n (drop (length b - i - n) b)),
-        length-take-le n (drop (length b - i - n) b) room,
-        less a h,
-        less b g,
-      ) in
-      omega arith
-
-  pub lcs-here : i < length a → i < length b → (get_or a (length a - i - 1) 0 ≡ get_or b (length b - i - 1) 0 → ⊥)
-      → lcs a b ≡ i + lcs (take (length a - i) a) (take (length b - i) b) → lcs a b ≡ i
-  unfolding lcs
-  lcs-here h g n inv =
-      let j = length a - i - 1 in
-      let k = length b - i - 1 in
-      let ea : length a - i ≡ suc j = omega arith in
-      let eb : length b - i ≡ suc k = omega arith in
-      inv ∙ rw (
-        ea,
-        eb,
-        take-suc a j 0 (omega arith),
-        take-suc b k 0 (omega arith),
-        reverse-append (take j a) (get_or a j 0 ∷ []),
-        reverse-append (take k b) (get_or b k 0 ∷ []),
-        lcp-heads (get_or a j 0) (get_or b k 0) (reverse (take j a)) (reverse (take k b)) n,
-      ) (add-zero i)
-
-  pub lcs-end-left : length a ≤ i → lcs a b ≡ i + lcs (take (length a - i) a) (take (length b - i) b) → lcs a b ≡ i
-  unfolding lcs lcp
-  lcs-end-left h inv = let e : length a - i ≡ 0 = omega arith in inv ∙ rw e (add-zero i)
-
-  pub lcs-end-right : length b ≤ i → lcs a b ≡ i + lcs (take (length a - i) a) (take (length b - i) b) → lcs a b ≡ i
-  lcs-end-right h inv = let e : length b - i ≡ 0 = omega arith in
-      inv ∙ rw (e, lcs-nil (take (length a - i) a)) (add-zero i)

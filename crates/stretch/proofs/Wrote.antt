@@ -1,11 +1,11 @@
 -- Texts laid one after the other.
-use Prim.Native.Nat.{ℕ, ◌+◌, ◌-◌, ◌<◌, ◌≤◌}
+use Prim.Native.Nat.{ℕ, ◌+◌, ◌-◌, ◌≤◌}
 use native.Mathlib.Omega.{arith}
-use mathlib.Core.Path.{◌≡◌, refl, ◌∙◌, sym, ap}
-use mathlib.Core.List.{List, [], ◌∷◌, ◌++◌}
-use lib.ListN.{length, take, set, length-append}
+use mathlib.Core.Path.{◌≡◌, ◌∙◌, sym, ap}
+use mathlib.Core.List.{List, ◌++◌}
+use lib.ListN.{length, take, length-append}
 use Rattle.stretch.specs.Over.{over, Wrote}
-use Rattle.stretch.proofs.Over.{over-next, set-over, length_over, take-over}
+use Rattle.stretch.proofs.Over.{over-next, length_over, take-over}
 
 -- a text laid over a buffer that has room for it
 pub over-wrote : (l : List ℕ) (at : ℕ) (s left : List ℕ) (n : ℕ) → at + length s ≤ length l → n ≡ at + length s
@@ -31,10 +31,3 @@ wrote_then l at s m n t k j h p q =
       laid = q.laid ∙ rw p.laid (over-next l at n s t h p.next);
       room = q.room;
     }
-
--- and a byte after it
-pub wrote-byte : (l : List ℕ) (at : ℕ) (s m : List ℕ) (n b : ℕ) → at ≤ length l → Wrote l at s m n → n < length m
-    → Wrote l at (s ++ (b ∷ [])) (set m n b) (n + 1)
-wrote-byte l at s m n b h w g =
-    wrote_then l at s m n (b ∷ []) (set m n b) (n + 1) h w
-    (over-wrote m n (b ∷ []) (set m n b) (n + 1) (omega arith) refl (set-over m n b g))

@@ -5,4 +5,6 @@ pub mod Class
 pub mod Common
 pub mod Over
 pub mod Part
+pub mod Reverse
 pub mod Same
+pub mod Three

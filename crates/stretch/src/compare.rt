@@ -1,88 +1,66 @@
-// How far two stretches agree, a machine word at a step.
-ghost use Rattle.std.specs.Prelude.{◌≡◌, ◌+◌, ◌-◌, ◌≤◌, min, length, take, drop};
+// How far two stretches agree, eight bytes at a step.
+ghost use Rattle.std.specs.Prelude.{◌≡◌, ◌+◌, ◌*◌, ◌≤◌, true, length, drop, map};
 ghost use Rattle.stretch.specs.Common.{lcp, lcs};
 ghost use Rattle.stretch.specs.Same.{same};
 
-use super::big_endian::read_word;
+use super::ends::{Back, End, Front};
+use super::readings::{AsGiven, Reading};
 
-const WORD: usize = 8;
-
-pub fn smaller(a: usize, b: usize) -> usize
-    ensures { result ≡ min a b }
+// Whether eight bytes are the others as read. It looks at all of them, without a way out, so that they are
+// compared at once.
+fn same_word<R: Reading>(a: &[u8; 8], b: &[u8; 8]) -> bool
+    ensures { result ≡ true → a.now ≡ map R.reads b.now }
 {
-    if a < b {
-        return a;
-    }
-    b
+    a.iter()
+        .zip(b)
+        .fold(true, |all, (x, y)| all & (*x == R::read(*y)))
 }
 
-// How many bytes lie in the whole words that both begin with.
-fn words_ahead(a: &[u8], b: &[u8]) -> usize
-    ensures upper_bound { (result ≤ length a.now) × (result ≤ length b.now) }
-    ensures b_value { lcp a.now b.now ≡ result + lcp (drop result a.now) (drop result b.now) }
+// How many words agree from an end on.
+fn words_agreed<E: End, R: Reading>(a: &[u8], b: &[u8]) -> usize
+    ensures upper_bound { (result * 8 ≤ length a.now) × (result * 8 ≤ length b.now) }
+    ensures value { lcp (E.order a.now) (E.order (map R.reads b.now)) ≡ result * 8
+        + lcp (drop (result * 8) (E.order a.now)) (drop (result * 8) (E.order (map R.reads b.now))) }
 {
-    let room = smaller(a.len(), b.len());
-    let mut i = 0;
-    while WORD <= room - i {
-        if read_word(a, i) != read_word(b, i) {
+    let room = a.len().min(b.len()) / 8;
+    for i in 0..room {
+        if !same_word::<R>(E::word(a, i), E::word(b, i)) {
             return i;
         }
-        i += WORD;
     }
-    i
+    room
 }
 
-// How many bytes lie in the whole words that both end in.
-fn words_behind(a: &[u8], b: &[u8]) -> usize
-    ensures upper_bound { (result ≤ length a.now) × (result ≤ length b.now) }
-    ensures b_value { lcs a.now b.now ≡ result
-        + lcs (take (length a.now - result) a.now)
-        (take (length b.now - result) b.now) }
+// How many bytes of `a` agree, from an end on, with those of `b` as read.
+pub fn agreed<E: End, R: Reading>(a: &[u8], b: &[u8]) -> usize
+    ensures { result ≡ lcp (E.order a.now) (E.order (map R.reads b.now)) }
 {
-    let room = smaller(a.len(), b.len());
-    let mut i = 0;
-    while WORD <= room - i {
-        if read_word(a, a.len() - i - WORD) != read_word(b, b.len() - i - WORD) {
+    let room = a.len().min(b.len());
+    for i in words_agreed::<E, R>(a, b) * 8..room {
+        if E::byte(a, i) != R::read(E::byte(b, i)) {
             return i;
         }
-        i += WORD;
     }
-    i
+    room
 }
 
 // The length of the longest common prefix.
 pub fn common_prefix(a: &[u8], b: &[u8]) -> usize
     ensures { result ≡ lcp a.now b.now }
 {
-    let mut i = words_ahead(a, b);
-    while i < a.len() && i < b.len() {
-        if a[i] != b[i] {
-            return i;
-        }
-        i += 1;
-    }
-    i
+    agreed::<Front, AsGiven>(a, b)
 }
 
 // The length of the longest common suffix.
 pub fn common_suffix(a: &[u8], b: &[u8]) -> usize
     ensures { result ≡ lcs a.now b.now }
 {
-    let mut i = words_behind(a, b);
-    while i < a.len() && i < b.len() {
-        if a[a.len() - i - 1] != b[b.len() - i - 1] {
-            return i;
-        }
-        i += 1;
-    }
-    i
+    agreed::<Back, AsGiven>(a, b)
 }
 
+// A function, since contracts above speak of `same` and not of a slice's `==`.
 pub fn equal(a: &[u8], b: &[u8]) -> bool
     ensures { result ≡ same a.now b.now }
 {
-    if a.len() != b.len() {
-        return false;
-    }
-    common_prefix(a, b) == a.len()
+    a == b
 }

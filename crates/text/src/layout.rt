@@ -1,11 +1,12 @@
 // The location text and the allele text, written.
-ghost use Rattle.std.specs.Prelude.{◌++◌, ◌+◌, ◌≤◌, length};
+ghost use Rattle.std.specs.Prelude.{◌+◌, ◌≤◌, length};
 ghost use Rattle.stretch.specs.Over.{Wrote};
+ghost use Rattle.stretch.specs.Three.{whole, whole_length};
 ghost use Rattle.decimals.specs.Decimal.{decimal};
 ghost use Rattle.text.specs.Layout.{location_text, location_words, allele_text, allele_words};
 
 use decimals::put_decimal;
-use stretch::{put, put_three};
+use stretch::{Three, put, put_three};
 
 pub const BEFORE_END: [u8; 19] = *b"{\"interval\":{\"end\":";
 
@@ -40,19 +41,26 @@ pub fn write_location(out: &mut [u8], start: u64, end: u64, digest: &[u8]) -> us
     let b = put_decimal(out, a, end);
     let c = put(out, b, &BEFORE_START);
     let d = put_decimal(out, c, start);
-    put_three(out, d, &BEFORE_DIGEST, digest, &AFTER_DIGEST)
+    let rest = Three {
+        first: &BEFORE_DIGEST,
+        middle: digest,
+        last: &AFTER_DIGEST,
+    };
+    put_three(out, d, rest)
 }
 
 // Lays the allele text of a replacement that comes in three stretches over the front of `out`, and
 // answers how long it is.
-pub fn write_allele(out: &mut [u8], location: &[u8], a: &[u8], b: &[u8], c: &[u8]) -> usize
-    requires { length location.now + (length a.now + (length b.now + (length c.now + allele_words)))
-        ≤ length out.old }
-    ensures { Wrote out.old 0
-        (allele_text location.now (a.now ++ (b.now ++ c.now)))
-        out.new result }
+pub fn write_allele(out: &mut [u8], location: &[u8], replacement: Three) -> usize
+    requires { length location.now + (whole_length replacement + allele_words) ≤ length out.old }
+    ensures { Wrote out.old 0 (allele_text location.now (whole replacement.entry)) out.new result }
 {
-    let second = put_three(out, 0, &BEFORE_LOCATION, location, &BEFORE_SEQUENCE);
-    let third = put_three(out, second, a, b, c);
+    let front = Three {
+        first: &BEFORE_LOCATION,
+        middle: location,
+        last: &BEFORE_SEQUENCE,
+    };
+    let second = put_three(out, 0, front);
+    let third = put_three(out, second, replacement);
     put(out, third, &AFTER_SEQUENCE)
 }

@@ -1,4 +1,5 @@
 pub mod LocationTexts
 pub mod AlleleTexts
+pub mod Exits
 pub mod Lies
 pub mod Promises

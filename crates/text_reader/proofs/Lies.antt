@@ -1,7 +1,7 @@
 -- Where a stretch lies in a text.
+use Rattle.std.proofs.Common.{rules}
 use Prim.Native.Nat.{ℕ, ◌+◌, ◌≤◌}
 use native.Mathlib.Nat.{add-sub_cancel_left}
-use native.Mathlib.Omega.{arith}
 use mathlib.Core.Path.{◌≡◌}
 use mathlib.Core.List.{List, ◌++◌}
 use lib.ListN.{length, length-append}
@@ -16,7 +16,4 @@ pub record Lies (text : List ℕ) (from long : ℕ) (s : List ℕ) : Type 0 wher
 pub lies-between : (text front s behind : List ℕ) (from long : ℕ) → text ≡ front ++ (s ++ behind) → length front ≡ from
     → length s ≡ long → Lies text from long s
 lies-between text front s behind from long e p q =
-    record {
-      within = rw e (simp length-append (omega arith));
-      stretch = rw (e, drop_at front (s ++ behind) from p, add-sub_cancel_left from long) (take_at s behind long q);
-    }
+    search (rules, length-append, drop_at, add-sub_cancel_left, take_at)

@@ -2,8 +2,9 @@
 use Prim.Native.Nat.{ℕ, ◌+◌, ◌≤◌}
 use native.Mathlib.Omega.{arith}
 use mathlib.Core.Path.{◌≡◌, refl, ◌∙◌, sym, ap}
-use mathlib.Core.List.{List, ◌++◌, append_assoc}
+use mathlib.Core.List.{List, [], ◌++◌, append_assoc}
 use lib.ListN.{length, length-append}
+use Rattle.std.specs.Prelude.{Result, Ok, Err, MatchResult, IsOkAnd}
 use Rattle.stretch.specs.Part.{part}
 use Rattle.refusal.specs.Limits.{reference_limit, sequence_limit}
 use Rattle.refusal.specs.declared.Refusal.{Refusal}
@@ -13,13 +14,10 @@ use Rattle.text.specs.Layout.{before_end, before_start, before_digest, after_dig
 use Rattle.text.specs.Layout.{before_sequence, after_sequence, allele_text}
 use Rattle.words.specs.Vocabulary.{Digest, Residues}
 use Rattle.words.proofs.Following.{longest-once}
+use Rattle.refusal.specs.declared.Reason.TheVariants.{TextNotAccepted}
 use Rattle.text_reader.specs.declared.AlleleParts.{AlleleParts}
-use Rattle.text_reader.specs.declared.AlleleRead.{AlleleRead}
-use Rattle.text_reader.specs.declared.AlleleRead.TheVariants.{Accepted as AlleleAccepted}
-use Rattle.text_reader.specs.declared.AlleleRead.TheVariants.{Refused as AlleleRefused}
 use Rattle.text_reader.specs.declared.LocationParts.{LocationParts}
-use Rattle.text_reader.specs.declared.LocationRead.{LocationRead}
-use Rattle.text_reader.specs.declared.LocationRead.TheVariants.{Accepted, Refused}
+use Rattle.text_reader.specs.declared.part.Part.{Part}
 use Rattle.text_reader.specs.Accepted.{LocationText, AlleleText, ReadsLocation, accepts, refuses, ReadsAllele}
 use Rattle.text_reader.specs.Accepted.{accepts_allele, refuses_allele, HandsBack, hands, nothing}
 use Rattle.text_reader.proofs.Lies.{Lies, lies-between}
@@ -27,10 +25,10 @@ use Rattle.text_reader.proofs.LocationTexts.{location-start, location-end, locat
 use Rattle.text_reader.proofs.AlleleTexts.{allele-location, allele-sequence}
 
 -- one answer
-pub reads-location-once : (text : List ℕ) (a₁ a₂ : LocationRead) → ReadsLocation text a₁ → ReadsLocation text a₂
-    → a₁ ≡ a₂
+pub reads-location-once : (text : List ℕ) (a₁ a₂ : Result LocationParts Refusal) → ReadsLocation text a₁
+    → ReadsLocation text a₂ → a₁ ≡ a₂
 reads-location-once text _ _ (accepts a) (accepts b) =
-    λ i. Accepted (record {
+    λ i. Ok (record {
       start = location-start text a b i;
       end = location-end text a b i;
       digest = length before_end + length (decimal (location-end text a b i)) + length before_start
@@ -39,13 +37,14 @@ reads-location-once text _ _ (accepts a) (accepts b) =
 reads-location-once text _ _ (accepts a) (refuses j r) = absurd (r.other a)
 reads-location-once text _ _ (refuses i r) (accepts b) = absurd (r.other b)
 reads-location-once text _ _ (refuses i r) (refuses j q) =
-    ap (λ (k : ℕ). Refused (record { number = 8; value = k }))
+    ap (λ (k : ℕ). Err (record { reason = TextNotAccepted; value = k }))
     (longest-once LocationText text i j r.longest q.longest)
 
-pub reads-allele-once : (text : List ℕ) (a₁ a₂ : AlleleRead) → ReadsAllele text a₁ → ReadsAllele text a₂ → a₁ ≡ a₂
+pub reads-allele-once : (text : List ℕ) (a₁ a₂ : Result AlleleParts Refusal) → ReadsAllele text a₁
+    → ReadsAllele text a₂ → a₁ ≡ a₂
 reads-allele-once text _ _ (accepts_allele a) (accepts_allele b) =
     ap
-    (λ (s : List ℕ). AlleleAccepted (record {
+    (λ (s : List ℕ). Ok (record {
       location = length before_location;
       sequence = length before_location + digest_length + length before_sequence;
       length = length s;
@@ -54,7 +53,7 @@ reads-allele-once text _ _ (accepts_allele a) (accepts_allele b) =
 reads-allele-once text _ _ (accepts_allele a) (refuses_allele j r) = absurd (r.other a)
 reads-allele-once text _ _ (refuses_allele i r) (accepts_allele b) = absurd (r.other b)
 reads-allele-once text _ _ (refuses_allele i r) (refuses_allele j q) =
-    ap (λ (k : ℕ). AlleleRefused (record { number = 8; value = k }))
+    ap (λ (k : ℕ). Err (record { reason = TextNotAccepted; value = k }))
     (longest-once AlleleText text i j r.longest q.longest)
 
 pub hands-once : (Kind : List ℕ → Type 0) (stretch : (text : List ℕ) → Kind text → List ℕ)
@@ -92,8 +91,9 @@ module _ (start end : ℕ) (digest : List ℕ) (ordered : start ≤ end) (inside
         refl;
   }
 
-  pub reads-location-back : (answer : LocationRead) → ReadsLocation (location_text start end digest) answer
-      → answer ≡ Accepted (record {
+  pub reads-location-back : (answer : Result LocationParts Refusal)
+      → ReadsLocation (location_text start end digest) answer
+      → answer ≡ Ok (record {
         start = start;
         end = end;
         digest = length before_end + length (decimal end) + length before_start + length (decimal start)
@@ -111,8 +111,8 @@ module _ (location sequence : List ℕ) (d : Digest location) (l : Residues sequ
   written-allele : AlleleText (allele_text location sequence)
   written-allele = record { location = location; sequence = sequence; digests = d; residues = l; laid = refl }
 
-  pub reads-allele-back : (answer : AlleleRead) → ReadsAllele (allele_text location sequence) answer
-      → answer ≡ AlleleAccepted (record {
+  pub reads-allele-back : (answer : Result AlleleParts Refusal) → ReadsAllele (allele_text location sequence) answer
+      → answer ≡ Ok (record {
         location = length before_location;
         sequence = length before_location + digest_length + length before_sequence;
         length = length sequence;
@@ -146,7 +146,7 @@ pub record AlleleMeans (text : List ℕ) (p : AlleleParts) : Type 0 where
 regroup : (b c d e f x : List ℕ) → b ++ (c ++ (d ++ (e ++ f))) ++ x ≡ b ++ (c ++ (d ++ (e ++ (f ++ x))))
 regroup b c d e f x = simp append_assoc
 
-pub reads-location-means : (text : List ℕ) (p : LocationParts) → ReadsLocation text (Accepted p) → LocationMeans text p
+pub reads-location-means : (text : List ℕ) (p : LocationParts) → ReadsLocation text (Ok p) → LocationMeans text p
 unfolding location_text
 reads-location-means text p (accepts a) =
     let front = before_end ++ (decimal a.end ++ (before_start ++ (decimal a.start ++ before_digest))) in
@@ -162,7 +162,7 @@ reads-location-means text p (accepts a) =
           (simp length-append (omega arith)) a.digests.long;
     }
 
-pub reads-allele-means : (text : List ℕ) (p : AlleleParts) → ReadsAllele text (AlleleAccepted p) → AlleleMeans text p
+pub reads-allele-means : (text : List ℕ) (p : AlleleParts) → ReadsAllele text (Ok p) → AlleleMeans text p
 unfolding allele_text
 reads-allele-means text p (accepts_allele a) =
     let front = before_location ++ (a.location ++ before_sequence) in
@@ -178,32 +178,62 @@ reads-allele-means text p (accepts_allele a) =
           (simp length-append (omega (arith, a.digests.long))) refl;
     }
 
--- by the answer that is held
-module _ {text : List ℕ} {answer : LocationRead} (r : ReadsLocation text answer) where
-  pub accepted-location : {p : LocationParts} → answer ≡ Accepted p → LocationMeans text p
-  accepted-location {p} e = reads-location-means text p (rw e at r)
+-- where a part of a text lies that is of the kind, or that it is none
+pub record Points (Kind : List ℕ → Type 0) (stretch : (text : List ℕ) → Kind text → List ℕ) (text : List ℕ)
+    (read : Result Part Refusal) : Type 0 where
+  pub lies : MatchResult read (λ p. (is : Kind text) × Lies text p.from p.length (stretch text is))
+      (λ _. Kind text → ⊥)
 
-  pub refused-location : {why : Refusal} → answer ≡ Refused why → LocationText text → ⊥
-  refused-location {why} e = other why (rw e at r)
-    where
-      other : (why : Refusal) → ReadsLocation text (Refused why) → LocationText text → ⊥
-      other _ (refuses i q) = q.other
+-- the same part of what each reading answers
+abbrev Maps : {P : Type 0} → Result P Refusal → (P → Part) → Result Part Refusal → Type 0
+Maps answer f read = MatchResult answer (λ p. IsOkAnd read (λ q. q ≡ f p)) (λ e. read ≡ Err e)
 
-module _ {text : List ℕ} {answer : AlleleRead} (r : ReadsAllele text answer) where
-  pub accepted-allele : {p : AlleleParts} → answer ≡ AlleleAccepted p → AlleleMeans text p
-  accepted-allele {p} e = reads-allele-means text p (rw e at r)
+module _ {P : Type 0} (Kind : List ℕ → Type 0) (stretch : (text : List ℕ) → Kind text → List ℕ) (text : List ℕ)
+    (Reads : Result P Refusal → Type 0) (f : P → Part)
+    (lies : (p : P) → Reads (Ok p) → (is : Kind text) × Lies text (f p).from (f p).length (stretch text is))
+    (other : (why : Refusal) → Reads (Err why) → Kind text → ⊥) where
+  points : (answer : Result P Refusal) (read : Result Part Refusal) → Reads answer → Maps answer f read
+      → Points Kind stretch text read
+  points (Ok p) (Ok q) r m = record { lies = rw m (lies p r) }
+  points (Ok p) (Err why) r m = absurd m
+  points (Err why) read r m = record { lies = rw m (other why r) }
 
-  pub refused-allele : {why : Refusal} → answer ≡ AlleleRefused why → AlleleText text → ⊥
-  refused-allele {why} e = other why (rw e at r)
-    where
-      other : (why : Refusal) → ReadsAllele text (AlleleRefused why) → AlleleText text → ⊥
-      other _ (refuses_allele i q) = q.other
+not-location : (text : List ℕ) (why : Refusal) → ReadsLocation text (Err why) → LocationText text → ⊥
+not-location text _ (refuses i r) = r.other
 
--- so a part of the text is handed back where it is accepted, and its empty part where it is not
-module _ {Kind : List ℕ → Type 0} {stretch : (text : List ℕ) → Kind text → List ℕ} {text s : List ℕ} where
-  pub hands-part : {from long : ℕ} (is : Kind text) → Lies text from long (stretch text is)
-      → s ≡ part text from (from + long) → HandsBack Kind stretch text s
-  hands-part is l e = rw (e, l.stretch) (hands is)
+not-allele : (text : List ℕ) (why : Refusal) → ReadsAllele text (Err why) → AlleleText text → ⊥
+not-allele text _ (refuses_allele i r) = r.other
 
-  pub hands_none : (Kind text → ⊥) → s ≡ part text 0 0 → HandsBack Kind stretch text s
-  hands_none other e = rw e (nothing other)
+module _ {text : List ℕ} {read : Result Part Refusal} where
+  pub digest-points : (answer : Result LocationParts Refusal) → ReadsLocation text answer
+      → Maps answer (λ p. record { from = p.digest; length = digest_length }) read
+      → Points LocationText (λ t a. a.digest) text read
+  digest-points answer =
+      points LocationText (λ t a. a.digest) text (ReadsLocation text) _
+      (λ p r. let means = reads-location-means text p r in (means.is, means.digest)) (not-location text) answer read
+
+  pub location-points : (answer : Result AlleleParts Refusal) → ReadsAllele text answer
+      → Maps answer (λ p. record { from = p.location; length = digest_length }) read
+      → Points AlleleText (λ t a. a.location) text read
+  location-points answer =
+      points AlleleText (λ t a. a.location) text (ReadsAllele text) _
+      (λ p r. let means = reads-allele-means text p r in (means.is, means.location)) (not-allele text) answer read
+
+  pub sequence-points : (answer : Result AlleleParts Refusal) → ReadsAllele text answer
+      → Maps answer (λ p. record { from = p.sequence; length = p.length }) read
+      → Points AlleleText (λ t a. a.sequence) text read
+  sequence-points answer =
+      points AlleleText (λ t a. a.sequence) text (ReadsAllele text) _
+      (λ p r. let means = reads-allele-means text p r in (means.is, means.sequence)) (not-allele text) answer read
+
+-- so a part of the text is handed back where it is accepted, and nothing where it is not
+module _ {Kind : List ℕ → Type 0} {stretch : (text : List ℕ) → Kind text → List ℕ} {text : List ℕ} where
+  pub points-within : {read : Result Part Refusal} → Points Kind stretch text read → (p : Part) → read ≡ Ok p
+      → p.from + p.length ≤ length text
+  points-within h p e = (rw e at h.lies).1.within
+
+  pub points-hands : (read : Result Part Refusal) (s : List ℕ) → Points Kind stretch text read
+      → MatchResult read (λ p. s ≡ part text p.from (p.from + p.length)) (λ _. s ≡ [])
+      → HandsBack Kind stretch text s
+  points-hands (Ok p) s h e = rw (e, h.lies.1.stretch) (hands h.lies.0)
+  points-hands (Err e) s h empty = rw empty (nothing h.lies)

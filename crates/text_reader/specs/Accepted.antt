@@ -1,5 +1,5 @@
 -- Document 01, "Texts and identifiers": the texts that are accepted, and what reading one answers.
-use Rattle.std.specs.Prelude.{ℕ, ◌+◌, ◌≤◌, ◌≡◌, List, [], length}
+use Rattle.std.specs.Prelude.{ℕ, ◌+◌, ◌≤◌, ◌≡◌, List, [], length, Result, Ok, Err}
 use Rattle.alphabets.specs.Alphabets.{digest_length}
 use Rattle.refusal.specs.Limits.{reference_limit, sequence_limit}
 use Rattle.decimals.specs.Decimal.{decimal}
@@ -7,11 +7,10 @@ use Rattle.text.specs.Layout.{before_end, before_start, before_digest, location_
 use Rattle.text.specs.Layout.{allele_text}
 use Rattle.words.specs.Prefix.{Refuses}
 use Rattle.words.specs.Vocabulary.{Digest, Residues}
-use Rattle.text_reader.specs.declared.AlleleRead.{AlleleRead}
-use Rattle.text_reader.specs.declared.AlleleRead.TheVariants.{Accepted as AlleleAccepted}
-use Rattle.text_reader.specs.declared.AlleleRead.TheVariants.{Refused as AlleleRefused}
-use Rattle.text_reader.specs.declared.LocationRead.{LocationRead}
-use Rattle.text_reader.specs.declared.LocationRead.TheVariants.{Accepted, Refused}
+use Rattle.refusal.specs.declared.Reason.TheVariants.{TextNotAccepted}
+use Rattle.refusal.specs.declared.Refusal.{Refusal}
+use Rattle.text_reader.specs.declared.AlleleParts.{AlleleParts}
+use Rattle.text_reader.specs.declared.LocationParts.{LocationParts}
 
 -- T at most E at most 1,000,000,000, and D
 pub record LocationText (text : List ℕ) : Type 0 where
@@ -32,26 +31,27 @@ pub record AlleleText (text : List ℕ) : Type 0 where
   pub laid : text ≡ allele_text location sequence
 
 -- start, end, and the offset of D
-pub data ReadsLocation (text : List ℕ) : LocationRead → Type 0 where
+pub data ReadsLocation (text : List ℕ) : Result LocationParts Refusal → Type 0 where
   accepts : (a : LocationText text)
-      → ReadsLocation text (Accepted (record {
+      → ReadsLocation text (Ok (record {
         start = a.start;
         end = a.end;
         digest = length before_end + length (decimal a.end) + length before_start + length (decimal a.start)
             + length before_digest;
       }))
-  refuses : (i : ℕ) → Refuses LocationText text i → ReadsLocation text (Refused (record { number = 8; value = i }))
+  refuses : (i : ℕ) → Refuses LocationText text i
+      → ReadsLocation text (Err (record { reason = TextNotAccepted; value = i }))
 
 -- the offset of L, and the offset and the length of X
-pub data ReadsAllele (text : List ℕ) : AlleleRead → Type 0 where
+pub data ReadsAllele (text : List ℕ) : Result AlleleParts Refusal → Type 0 where
   accepts_allele : (a : AlleleText text)
-      → ReadsAllele text (AlleleAccepted (record {
+      → ReadsAllele text (Ok (record {
         location = length before_location;
         sequence = length before_location + digest_length + length before_sequence;
         length = length a.sequence;
       }))
   refuses_allele : (i : ℕ) → Refuses AlleleText text i
-      → ReadsAllele text (AlleleRefused (record { number = 8; value = i }))
+      → ReadsAllele text (Err (record { reason = TextNotAccepted; value = i }))
 
 -- a stretch of a text that is of the kind, or none: of a refused text the empty one
 pub data HandsBack (Kind : List ℕ → Type 0) (stretch : (text : List ℕ) → Kind text → List ℕ) (text : List ℕ) : List ℕ

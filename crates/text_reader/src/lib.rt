@@ -12,7 +12,7 @@ mod part;
 pub use allele::{location_of, read_allele, sequence_of};
 pub use location::{digest_of, read_location};
 
-// What a location text says: start, end, and where its sequence digest begins.
+// What a location text says: start, end, and where its sequence digest begins, as a place, which C reads.
 #[derive(Clone, Copy)]
 pub struct LocationParts {
     pub start: u64,
@@ -20,22 +20,10 @@ pub struct LocationParts {
     pub digest: u64,
 }
 
-#[derive(Clone, Copy)]
-pub enum LocationRead {
-    Accepted(LocationParts),
-    Refused(refusal::Refusal),
-}
-
-// Where the parts of an allele text lie: the location's digest, and the sequence.
+// Where the parts of an allele text lie, as places, which C reads: the location's digest, and the sequence.
 #[derive(Clone, Copy)]
 pub struct AlleleParts {
     pub location: u64,
     pub sequence: u64,
     pub length: u64,
-}
-
-#[derive(Clone, Copy)]
-pub enum AlleleRead {
-    Accepted(AlleleParts),
-    Refused(refusal::Refusal),
 }

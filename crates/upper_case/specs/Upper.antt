@@ -11,6 +11,10 @@ upper b = cond (leb 0x61 b) (cond (leb b 0x7A) (b - 0x20) b) b
 abbrev pub folded : List ℕ → List ℕ
 folded s = map upper s
 
+-- a letter in either case
+abbrev pub either_case : ℕ → Bool
+either_case b = letter (upper b)
+
 -- one or more letters, in either case
 unfoldable pub lettered : List ℕ → Bool
 lettered s = cond (ltb 0 (length s)) (every letter (folded s)) false

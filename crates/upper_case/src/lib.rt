@@ -4,8 +4,8 @@
 
 mod compare;
 mod letters;
-mod write;
+mod reading;
 
-pub use compare::{common_prefix_folded, common_suffix_folded};
+pub use compare::common_prefix_folded;
 pub use letters::is_lettered;
-pub use write::put_three_folded;
+pub use reading::UpperCase;

@@ -6,18 +6,18 @@ use mathlib.Core.Bool.{true, false}
 use mathlib.Core.List.{List}
 use lib.ListN.{length}
 use Rattle.stretch.specs.Part.{part}
+use Rattle.std.specs.Prelude.{Result, Ok, Err}
+use Rattle.refusal.specs.declared.Reason.TheVariants.{OverLimit, NoAlternate}
 use Rattle.refusal.specs.declared.Refusal.{Refusal}
 use Rattle.refusal.specs.Limits.{replacement_limit}
 use Rattle.refusal.proofs.Keeps.{keeps-refused, keeps-as}
 use Rattle.refusal.proofs.Verdict.{verdict-first, verdict-then}
 use Rattle.fields.specs.Cut.{parted}
 use Rattle.normal_form.specs.Stretches.{stretches_of}
-use Rattle.normal_form_calls.specs.declared.Normalised.{Normalised}
-use Rattle.normal_form_calls.specs.declared.Normalised.TheVariants.{Refused as Unformed}
+use Rattle.normal_form_calls.specs.declared.Formed.{Formed}
 use Rattle.normal_form_calls.specs.Calls.{Lays}
 use Rattle.upper_case.specs.Upper.{folded, lettered}
 use Rattle.vcf_line.specs.declared.Site.{Site}
-use Rattle.vcf_line.specs.declared.Sited.TheVariants.{Accepted, Refused}
 use Rattle.vcf_line.specs.Line.{comma, at_place}
 use Rattle.vcf_line.specs.Calls.{line_grounds}
 use Rattle.vcf_line.specs.Inner.{sited}
@@ -30,24 +30,24 @@ use Rattle.vcf_form.proofs.Passed.{named-over, named-lays}
 module _ (r : List ℕ) (start end : ℕ) (named : List ℕ) (alternate : ℕ) (out : List ℕ) (place : ℕ) where
   -- 21
   pub named-unlettered : lettered named ≡ false
-      → FormsNamed r start end named alternate out place (Unformed (record { number = 21; value = alternate })) out
-  named-unlettered h = keeps-refused _ _ _ _ _ (record { number = 21; value = alternate }) (rw h refl)
+      → FormsNamed r start end named alternate out place (Err (record { reason = NoAlternate; value = alternate })) out
+  named-unlettered h = keeps-refused _ _ _ _ (record { reason = NoAlternate; value = alternate }) (rw h refl)
 
   module _ (on : OfLetters r start end) (h : lettered named ≡ true) where
     -- 1
     pub named-long : replacement_limit < length named
-        → FormsNamed r start end named alternate out place (Unformed (record { number = 1; value = 1 })) out
+        → FormsNamed r start end named alternate out place (Err (record { reason = OverLimit; value = 1 })) out
     named-long l =
-        keeps-refused _ _ _ _ _ (record { number = 1; value = 1 })
+        keeps-refused _ _ _ _ (record { reason = OverLimit; value = 1 })
         (rw h (named-over r start end named on h (length out) place l))
 
     -- 6, or the form
-    pub named-formed : length named ≤ replacement_limit → (answer : Normalised) (left : List ℕ)
+    pub named-formed : length named ≤ replacement_limit → (answer : Result Formed Refusal) (left : List ℕ)
         → Lays r (folded named) (stretches_of r start end (folded named)) out place answer left
         → FormsNamed r start end named alternate out place answer left
     named-formed l answer left p = rw h (named-lays r start end named on h l out place answer left p)
 
-module _ (r line : List ℕ) (s : Site) (e : Accepted s ≡ sited r line) where
+module _ (r line : List ℕ) (s : Site) (e : Ok s ≡ sited r line) where
   -- a site that is read has letters there
   pub site-letters : OfLetters r s.start.0 s.end.0
   site-letters =
@@ -67,17 +67,17 @@ module _ (r line : List ℕ) (s : Site) (e : Accepted s ≡ sited r line) where
   site-named alternate alts named d n =
       n ∙ ap (λ (l : List ℕ). at_place (parted comma l) alternate) (d ∙ sym (site-alternates r line s e).piece)
 
-  pub site-formed : (alternate : ℕ) (named out : List ℕ) (place : ℕ) (answer : Normalised) (left : List ℕ)
+  pub site-formed : (alternate : ℕ) (named out : List ℕ) (place : ℕ) (answer : Result Formed Refusal) (left : List ℕ)
       → named ≡ named_at line alternate
       → FormsNamed r s.start.0 s.end.0 named alternate out place answer left
       → VcfForms r line alternate out place answer left
   unfolding vcf_grounds
   site-formed alternate named out place answer left n p =
-      keeps-as _ _ _ _ _ _ answer left (verdict-then (line_grounds r line) _ (site-passed r line s e))
+      keeps-as _ _ _ _ _ answer left (verdict-then (line_grounds r line) _ (site-passed r line s e))
       (rw (n, site-is r line s e) at p)
 
 pub site-unformed : (r line : List ℕ) (why : Refusal) (alternate : ℕ) (out : List ℕ) (place : ℕ)
-    → Refused why ≡ sited r line → VcfForms r line alternate out place (Unformed why) out
+    → Err why ≡ sited r line → VcfForms r line alternate out place (Err why) out
 unfolding vcf_grounds
 site-unformed r line why alternate out place e =
-    keeps-refused _ _ _ _ _ why (verdict-first (line_grounds r line) _ why (site-refused r line why e))
+    keeps-refused _ _ _ _ why (verdict-first (line_grounds r line) _ why (site-refused r line why e))

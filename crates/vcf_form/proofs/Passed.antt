@@ -11,6 +11,9 @@ use borrow.Author.Tests.{lt-ltb, le-ltb}
 use Rattle.stretch.specs.Class.{every}
 use Rattle.stretch.specs.Part.{part}
 use Rattle.stretch.proofs.Outside.{first_outside-every}
+use Rattle.std.specs.Prelude.{Result}
+use Rattle.refusal.specs.declared.Reason.TheVariants.{OverLimit}
+use Rattle.refusal.specs.declared.Refusal.{Refusal}
 use Rattle.refusal.specs.Limits.{reference_limit, replacement_limit}
 use Rattle.refusal.specs.Verdict.{accepted, refused, verdict}
 use Rattle.alphabets.specs.Alphabets.{residue, foreign}
@@ -20,7 +23,7 @@ use Rattle.normal_form.specs.declared.Stretches.{Stretches}
 use Rattle.normal_form.specs.Stretches.{Fits, stretches_of}
 use Rattle.normal_form.proofs.Clean.{normal-every}
 use Rattle.normal_form.proofs.Join.{stretches-fit}
-use Rattle.normal_form_calls.specs.declared.Normalised.{Normalised}
+use Rattle.normal_form_calls.specs.declared.Formed.{Formed}
 use Rattle.normal_form_calls.specs.Calls.{form_grounds, normal_grounds, Lays, Normalises}
 use Rattle.normal_form_calls.proofs.Answers.{lays-normal}
 use Rattle.upper_case.specs.Upper.{folded, lettered}
@@ -42,7 +45,8 @@ module _ (r : List ℕ) (start end : ℕ) (named : List ℕ) (on : OfLetters r s
 
   -- 1, of an alternate over its limit
   pub named-over : (room place : ℕ) → replacement_limit < length named
-      → verdict (normal_grounds r start end (folded named) room place) ≡ refused (record { number = 1; value = 1 })
+      → verdict (normal_grounds r start end (folded named) room place)
+      ≡ refused (record { reason = OverLimit; value = 1 })
   unfolding normal_grounds form_grounds
   named-over room place l =
       rw (
@@ -76,7 +80,7 @@ module _ (r : List ℕ) (start end : ℕ) (named : List ℕ) (on : OfLetters r s
         )
 
     -- then 6 alone decides
-    pub named-lays : (out : List ℕ) (place : ℕ) (answer : Normalised) (left : List ℕ)
+    pub named-lays : (out : List ℕ) (place : ℕ) (answer : Result Formed Refusal) (left : List ℕ)
         → Lays r (folded named) (stretches_of r start end (folded named)) out place answer left
         → Normalises r start end (folded named) out place answer left
     named-lays out place answer left p =

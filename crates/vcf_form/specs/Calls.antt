@@ -1,10 +1,11 @@
 -- Document 02, Q-1: what `vcf_form` promises. It is the normal form of the allele that the line names.
-use Rattle.std.specs.Prelude.{ℕ, List, ◌∷◌, ◌++◌, length}
+use Rattle.std.specs.Prelude.{ℕ, List, ◌∷◌, ◌++◌, length, Result}
+use Rattle.refusal.specs.declared.Refusal.{Refusal}
 use Rattle.refusal.specs.Verdict.{Ground, verdict}
 use Rattle.normal_form.specs.Form.{Normal, normal}
 use Rattle.moved.specs.declared.Moved.{Moved}
 use Rattle.moved.specs.Moved.{moved_by}
-use Rattle.normal_form_calls.specs.declared.Normalised.{Normalised}
+use Rattle.normal_form_calls.specs.declared.Formed.{Formed}
 use Rattle.normal_form_calls.specs.Calls.{normal_grounds, Forms}
 use Rattle.upper_case.specs.Upper.{folded}
 use Rattle.vcf_line.specs.Line.{start_of, end_of, alternates, at_place}
@@ -33,7 +34,7 @@ vcf_grounds r line alternate room place =
     ∷ normal_grounds r (start_of line).0 (end_of line).0 (replacement_at line alternate) room place)
 
 -- what `vcf_form` promises
-abbrev pub VcfForms : List ℕ → List ℕ → ℕ → List ℕ → ℕ → Normalised → List ℕ → Type 0
+abbrev pub VcfForms : List ℕ → List ℕ → ℕ → List ℕ → ℕ → Result Formed Refusal → List ℕ → Type 0
 VcfForms r line alternate out place =
     Forms (verdict (vcf_grounds r line alternate (length out) place)) (line_form r line alternate)
     (line_moved r line alternate) out place

@@ -3,6 +3,7 @@
 use Rattle.std.specs.Prelude.{ℕ, List, [], ◌∷◌, ◌++◌}
 use Prim.Native.String.{String}
 use Rattle.stretch.specs.Ascii.{ascii}
+use Rattle.refusal.specs.Numbers.{number_of}
 use Rattle.refusal.specs.Verdict.{Verdict, accepted, refused, verdict}
 use Rattle.normal_form.specs.declared.Kind.TheVariants.{Unchanged, Substitution, Indel}
 use Rattle.normal_form.specs.Form.{Normal}
@@ -34,7 +35,7 @@ line_of (c ∷ d ∷ more) = ascii c ++ (tab ∷ line_of (d ∷ more))
 -- what the definitions answer
 abbrev pub answer_of : Verdict → Normal → Moved → Answer
 answer_of accepted f m = formed f m
-answer_of (refused r) f m = turned r.number r.value
+answer_of (refused r) f m = turned (number_of r.reason) r.value
 
 abbrev pub reference : List ℕ
 reference = ascii "TCAGCAGCAGT"

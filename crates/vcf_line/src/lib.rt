@@ -21,22 +21,12 @@ pub struct ResiduePosition(pub u64);
 #[derive(Clone, Copy)]
 pub struct InterbasePosition(pub u64);
 
-// What POS says.
-#[derive(Clone, Copy)]
-pub enum Position {
-    At(ResiduePosition),
-    Absent,
-}
-
 // Where the columns lie that are read.
 #[derive(Clone, Copy)]
-pub enum Columns {
-    Five {
-        pos: fields::Extent,
-        reference: fields::Extent,
-        alternates: fields::Extent,
-    },
-    Fewer,
+pub struct Columns {
+    pub pos: fields::Extent,
+    pub reference: fields::Extent,
+    pub alternates: fields::Extent,
 }
 
 // Where a line stands on the reference, and where its alternates lie in the line.
@@ -45,16 +35,4 @@ pub struct Site {
     pub start: InterbasePosition,
     pub end: InterbasePosition,
     pub alternates: fields::Extent,
-}
-
-#[derive(Clone, Copy)]
-pub enum Sited {
-    Accepted(Site),
-    Refused(refusal::Refusal),
-}
-
-#[derive(Clone, Copy)]
-pub enum Counted {
-    Places(u64),
-    Refused(refusal::Refusal),
 }

@@ -3,17 +3,14 @@ ghost use Rattle.std.specs.Prelude.{◌≡◌, ◌+◌, ◌^◌, ◌<◌, ◌≤
 ghost use Rattle.vcf_line.specs.Line.{before, past};
 ghost use Rattle.vcf_line.specs.Inner.{position_within};
 
-use super::{InterbasePosition, Position, ResiduePosition};
-use decimals::{Number, read_decimal_within};
+use super::{InterbasePosition, ResiduePosition};
+use decimals::read_decimal_within;
 
 // The residue that POS names, on a reference of so many.
-pub fn read_position(text: &[u8], residues: u64) -> Position
+pub fn read_position(text: &[u8], residues: u64) -> Option<ResiduePosition>
     ensures { result ≡ position_within residues text.now }
 {
-    let Number::Is(number) = read_decimal_within(text, 1, residues) else {
-        return Position::Absent;
-    };
-    Position::At(ResiduePosition(number))
+    read_decimal_within(text, 1, residues).map(ResiduePosition)
 }
 
 // The position before a residue.
@@ -37,6 +34,5 @@ pub fn onward(reference: &[u8], start: InterbasePosition) -> &[u8]
     requires { start.0 ≤ length reference.now }
     ensures { result.now ≡ drop start.0 reference.now }
 {
-    let from = start.0 as usize;
-    &reference[from..]
+    &reference[start.0 as usize..]
 }

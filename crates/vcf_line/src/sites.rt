@@ -5,9 +5,9 @@ ghost use Rattle.vcf_line.specs.Inner.{sited, compared};
 
 use super::positions::{before_residue, onward, position_after, read_position};
 use super::scan::scan_columns;
-use super::{Columns, InterbasePosition, Position, Site, Sited};
+use super::{InterbasePosition, Site};
 use fields::{Extent, extent_of};
-use refusal::{NO_DATA_LINE, OVER_LIMIT, REF_DIFFERS, REFERENCE_LIMIT, refuse};
+use refusal::{REFERENCE_LIMIT, Reason, Refusal, refuse};
 use upper_case::{common_prefix_folded, is_lettered};
 
 // 20 alone: REF, as it is given, against the reference from `start` on.
@@ -16,16 +16,16 @@ fn compare_ref(
     start: InterbasePosition,
     given: &[u8],
     alternates: Extent,
-) -> Sited
+) -> Result<Site, Refusal>
     requires { (length reference.now ≤ reference_limit) × (start.0 ≤ length reference.now) }
     ensures { result ≡ compared reference.now start given.now alternates }
 {
     let shared = common_prefix_folded(onward(reference, start), given);
     if shared < given.len() {
-        return Sited::Refused(refuse(REF_DIFFERS, shared as u64));
+        return Err(refuse(Reason::RefDiffers, shared as u64));
     }
     let end = position_after(start, given.len());
-    Sited::Accepted(Site {
+    Ok(Site {
         start,
         end,
         alternates,
@@ -33,26 +33,28 @@ fn compare_ref(
 }
 
 // Where a line stands on the reference.
-pub fn read_site(reference: &[u8], line: &[u8]) -> Sited
+pub fn read_site(reference: &[u8], line: &[u8]) -> Result<Site, Refusal>
     ensures { result ≡ sited reference.now line.now }
 {
     if REFERENCE_LIMIT < reference.len() as u64 {
-        return Sited::Refused(refuse(OVER_LIMIT, 0));
+        return Err(refuse(Reason::OverLimit, 0));
     }
-    let Columns::Five {
-        pos,
-        reference: given,
-        alternates,
-    } = scan_columns(line)
-    else {
-        return Sited::Refused(refuse(NO_DATA_LINE, 0));
+    let unread = refuse(Reason::NoDataLine, 0);
+    let Some(columns) = scan_columns(line) else {
+        return Err(unread);
     };
-    let ref_column = extent_of(line, given);
-    if !is_lettered(ref_column) {
-        return Sited::Refused(refuse(NO_DATA_LINE, 0));
+    let given = extent_of(line, columns.reference);
+    if !is_lettered(given) {
+        return Err(unread);
     }
-    let Position::At(residue) = read_position(extent_of(line, pos), reference.len() as u64) else {
-        return Sited::Refused(refuse(NO_DATA_LINE, 0));
+    let residues = reference.len() as u64;
+    let Some(residue) = read_position(extent_of(line, columns.pos), residues) else {
+        return Err(unread);
     };
-    compare_ref(reference, before_residue(residue), ref_column, alternates)
+    compare_ref(
+        reference,
+        before_residue(residue),
+        given,
+        columns.alternates,
+    )
 }

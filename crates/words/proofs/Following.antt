@@ -1,5 +1,6 @@
 -- Texts by words: a word, then what may follow it. How far such a text is read is how far its word is, and then what
 -- follows it.
+use Rattle.std.proofs.Common.{rules}
 use Prim.Native.Nat.{ℕ, suc, ◌+◌, ◌-◌, ◌<◌, ◌≤◌}
 use native.Mathlib.Omega.{arith}
 use mathlib.Core.Path.{◌≡◌, refl, ◌∙◌, sym, ap, subst}
@@ -26,10 +27,7 @@ all-front : (s : List ℕ) → take (length s) s ++ [] ≡ s
 all-front s = append-nil (take (length s) s) ∙ take_all (length s) s (omega arith)
 
 compare : {C : Type 0} (a b : ℕ) → (a < b → C) → (b < a → C) → (a ≡ b → C) → C
-compare a b f g h =
-    by_cases (ltb a b)
-    (λ t. f (ltb-true a b t))
-    (λ t. by_cases (ltb b a) (λ t'. g (ltb-true b a t')) (λ t'. h (omega (arith, ltb-false a b t, ltb-false b a t'))))
+compare a b f g h = search rules
 
 -- a word of a kind, then what may follow that word
 pub record Then (Kind : List ℕ → Type 0) (Next : List ℕ → List ℕ → Type 0) (text : List ℕ) : Type 0 where
@@ -64,17 +62,11 @@ pub record Open (Kind : List ℕ → Type 0) : Type 0 where
   pub text : List ℕ
   pub is-text : Kind text
 
-pub open_done : Open Done
-open_done = record { text = []; is-text = refl }
-
 -- the first bytes of a text of a kind begin one
 begins-take : (Kind : List ℕ → Type 0) (w : List ℕ) (j : ℕ) → Kind w → Begins Kind (take j w)
 begins-take Kind w j k = record { rest = drop j w; whole = rw (take-append-drop j w) k }
 
 module _ (Kind : List ℕ → Type 0) (Next : List ℕ → List ℕ → Type 0) where
-  pub open-then : (w : List ℕ) → Kind w → Open (Next w) → Open (Then Kind Next)
-  open-then w k o = record { text = w ++ o.text; is-text = word-then w o.text k o.is-text }
-
   -- of two words that begin one text the one that is followed is not the shorter
   not-shorter : Apart Kind Next → (w v w' v' : List ℕ) → w ++ v ≡ w' ++ v' → Kind w → Next w v → Kind w'
       → length w < length w' → ⊥
@@ -196,27 +188,13 @@ module _ (Kind : List ℕ → Type 0) (Next : List ℕ → List ℕ → Type 0) 
 
 -- where the end is, nothing more may stand
 pub done-refuses : (s : List ℕ) → 0 < length s → Refuses Done s 0
-done-refuses s h =
-    record {
-      other = λ e. omega (arith, ap length e);
-      longest = record {
-        within = omega arith;
-        begins = record { rest = []; whole = refl };
-        furthest = λ j l m b. omega
-            (arith, length-take-le j s m, ap length b.whole, length-append (take j s) b.rest);
-      };
-    }
+done-refuses s h = search rules
 
 -- two kinds of one meaning
 module _ (L M : List ℕ → Type 0) (f : (t : List ℕ) → L t → M t) (g : (t : List ℕ) → M t → L t) (s : List ℕ)
     (i : ℕ) where
   pub longest-alike : Longest L s i → Longest M s i
-  longest-alike r =
-      record {
-        within = r.within;
-        begins = record { rest = r.begins.rest; whole = f _ r.begins.whole };
-        furthest = λ j h l b. r.furthest j h l (record { rest = b.rest; whole = g _ b.whole });
-      }
+  longest-alike r = search rules
 
   pub refuses-alike : Refuses L s i → Refuses M s i
   refuses-alike r = record { other = λ t. r.other (g s t); longest = longest-alike r.longest }
@@ -224,8 +202,4 @@ module _ (L M : List ℕ → Type 0) (f : (t : List ℕ) → L t → M t) (g : (
 -- there is one longest prefix
 pub longest-once : (Kind : List ℕ → Type 0) (text : List ℕ) (i j : ℕ) → Longest Kind text i → Longest Kind text j
     → i ≡ j
-longest-once Kind text i j f g =
-    compare i j
-    (λ h. absurd (f.furthest j h g.within g.begins))
-    (λ h. absurd (g.furthest i h f.within f.begins))
-    (λ h. h)
+longest-once Kind text i j f g = search rules

@@ -143,8 +143,7 @@ module _ (w : List ℕ) (nonempty : 0 < length w) where
       apart : Apart (Residues most) (Next (residues_sort most) (λ _. word w rest))
       apart v c k b n =
           let among = residues-on v c most b in
-          let z : ◌≡◌ {A = ℕ} 0 1 = cc (among, next-first (residues_sort most) (λ _. rest) v c n) in
-          omega arith
+          cc (among, next-first (residues_sort most) (λ _. rest) v c n)
 
   pub sound-number : (least most : ℕ) (ordered : least ≤ most) → (0x30 ≤ get_or w 0 0 → get_or w 0 0 ≤ 0x39 → ⊥)
       → (rest : ℕ → Layout)

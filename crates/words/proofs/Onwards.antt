@@ -1,47 +1,57 @@
 -- Steps of a walk: none where it had stopped, and past one word or into it.
-use Prim.Native.Nat.{ℕ, ◌+◌, ◌≤◌}
+use Rattle.std.proofs.Common.{rules}
+use Prim.Native.Nat.{ℕ, ◌+◌, ◌-◌, ◌≤◌, min}
 use native.Mathlib.Nat.{add-sub_cancel_left}
-use native.Mathlib.Omega.{arith}
-use mathlib.Core.Path.{◌≡◌, refl}
+use mathlib.Core.Path.{◌≡◌}
 use mathlib.Core.Bool.{Bool, true, false}
 use mathlib.Core.List.{List}
-use lib.ListN.{length, drop, length-drop}
-use Rattle.stretch.proofs.Cases.{by_cases}
-use Rattle.words.specs.declared.Walk.{Walk}
-use Rattle.words.specs.Walk.{Goes, Stops, Onward}
+use lib.Dec.{eqb}
+use lib.ListN.{length, take, drop, length-drop}
+use borrow.Author.Tests.{eqb-true, eqb-false}
+use Rattle.alphabets.specs.Alphabets.{base64url, foreign, digest_length}
+use Rattle.std.specs.Prelude.{Result, Ok}
+use Rattle.stretch.specs.Common.{lcp}
+use Rattle.stretch.specs.Class.{first_outside}
+use Rattle.stretch.proofs.Tail.{lent-tail}
+use Rattle.words.specs.declared.Stopped.{Stopped}
+use Rattle.words.specs.Vocabulary.{Word, Digest, Residues}
+use Rattle.words.specs.Walk.{Walk, walk_of, Goes, Stops, Onward}
+use Rattle.words.proofs.Readings.{lent-most, goes-word, stops-word, goes-digest, stops-digest, goes-residues}
 
-module _ (Kind : List ℕ → Type 0) (text : List ℕ) (a : Walk) (inside : a.at ≤ length text) where
-  pub onward-stopped : a.on ≡ false → Onward Kind text a a
-  onward-stopped f =
-      record {
-        forth = omega arith;
-        within = inside;
-        stays = λ _. refl;
-        goes = λ t _. absurd (let z : ◌≡◌ {A = ℕ} 0 1 = cc in omega arith);
-        stops = λ t _. absurd (let z : ◌≡◌ {A = ℕ} 0 1 = cc in omega arith);
-      }
+pub onward-stopped : (Kind : List ℕ → Type 0) (text : List ℕ) (a : Walk) → a.at ≤ length text → a.on ≡ false
+    → Onward Kind text a a
+onward-stopped Kind text a inside f = search rules
 
-  pub onward-step : a.on ≡ true → (n : ℕ) (t : Bool) → (t ≡ true → Goes Kind (drop a.at text) n)
-      → (t ≡ false → Stops Kind (drop a.at text) n)
-      → Onward Kind text a (record { at = a.at + n; on = t })
-  onward-step on n t goes stops =
-      record {
-        forth = omega arith;
-        within = by_cases t
-            (λ e. let h : n ≤ length (drop a.at text) = (goes e).within in omega (arith, length-drop a.at text))
-            (λ e. let h : n ≤ length (drop a.at text) = (stops e).longest.within in
-            omega (arith, length-drop a.at text));
-        stays = λ f. absurd (let z : ◌≡◌ {A = ℕ} 0 1 = cc in omega arith);
-        goes = λ _ e. rw (add-sub_cancel_left a.at n) (goes e);
-        stops = λ _ e. rw (add-sub_cancel_left a.at n) (stops e);
-      }
+module _ (Kind : List ℕ → Type 0) (text : List ℕ) (from n : ℕ) (inside : from ≤ length text) where
+  pub onward-step : (t : Bool) → (t ≡ true → Goes Kind (drop from text) n)
+      → (t ≡ false → Stops Kind (drop from text) n)
+      → Onward Kind text (record { at = from; on = true }) (record { at = from + n; on = t })
+  onward-step t goes stops = search (rules, length-drop, add-sub_cancel_left)
 
-  -- of a kind that never stops
-  pub onward-goes : a.on ≡ true → (n : ℕ) → Goes Kind (drop a.at text) n
-      → Onward Kind text a (record { at = a.at + n; on = true })
-  onward-goes on n g = onward-step on n true (λ _. g) (λ e. absurd (let z : ◌≡◌ {A = ℕ} 0 1 = cc in omega arith))
+-- the words that are read from where a walk goes on
+module _ {text : List ℕ} {a : Result ℕ Stopped} {from n : ℕ} (was : a ≡ Ok from)
+    (inside : (walk_of a).at ≤ length text) where
+  onward_kind : (Kind : List ℕ → Type 0) (t : Bool) → (t ≡ true → Goes Kind (drop from text) n)
+      → (t ≡ false → Stops Kind (drop from text) n)
+      → Onward Kind text (walk_of a) (record { at = from + n; on = t })
+  onward_kind Kind t goes stops = rw was (onward-step Kind text from n (rw was at inside) t goes stops)
 
--- a walk that goes on has gone on before
-pub on-before : {Kind : List ℕ → Type 0} {text : List ℕ} {a b : Walk}
-    → Onward Kind text a b → b.on ≡ true → a.on ≡ true
-on-before {a = a} o e = by_cases a.on (λ t. t) (λ t. cc (o.stays t))
+  pub onward_word : {w : List ℕ} → n ≡ lcp w (take (length text - from) (drop from text))
+      → Onward (Word w) text (walk_of a) (record { at = from + n; on = eqb n (length w) })
+  onward_word {w} shared =
+      let same = rw lent-tail at shared in
+      onward_kind (Word w) (eqb n (length w))
+      (λ e. goes-word w _ n same (eqb-true _ _ e)) (λ e. stops-word w _ n same (eqb-false _ _ e))
+
+  pub onward_digest : n ≡ first_outside base64url
+      (take (from + min digest_length (length text - from) - from) (drop from text))
+      → Onward Digest text (walk_of a) (record { at = from + n; on = eqb n digest_length })
+  onward_digest lent =
+      let first = rw lent-most at lent in
+      onward_kind Digest (eqb n digest_length)
+      (λ e. goes-digest _ n first (eqb-true _ _ e)) (λ e. stops-digest _ n first (eqb-false _ _ e))
+
+  pub onward_residues : {most : ℕ} → n ≡ foreign (take (from + min most (length text - from) - from) (drop from text))
+      → Onward (Residues most) text (walk_of a) (record { at = from + n; on = true })
+  onward_residues {most} lent =
+      onward_kind (Residues most) true (λ _. goes-residues most _ n (rw lent-most at lent)) (λ e. cc)

@@ -1,12 +1,13 @@
 -- Digits that begin the decimal of some number of a range: by the tenth parts of its limits, without the last digit.
+use Rattle.std.proofs.Common.{rules}
 use Prim.Native.Nat.{ℕ, ◌+◌, ◌-◌, ◌*◌, ◌/◌, ◌%◌, ◌<◌, ◌≤◌}
 use native.Mathlib.Omega.{arith}
 use mathlib.Core.Path.{◌≡◌, refl, ◌∙◌, sym, ap}
-use mathlib.Core.Bool.{Bool, true, false}
+use mathlib.Core.Bool.{Bool, false}
 use mathlib.Core.List.{List, [], ◌∷◌, ◌++◌, append_assoc, append-nil}
 use lib.Dec.{leb, ltb}
 use lib.ListN.{length, get_or, take, length-append}
-use lib.Seq.{take_all, take-length, take-take, length-take-le, take-append-le, take-append-add, take-append_seam}
+use lib.Seq.{take_all, take-take, length-take-le, take-append-le, take-append-add, take-append_seam}
 use borrow.Author.Tests.{leb-true, leb-false, ltb-true, ltb-false}
 use Rattle.stretch.proofs.Cases.{by_cases}
 use Rattle.decimals.specs.Decimal.{digit, decimal}
@@ -17,40 +18,15 @@ use Rattle.words.specs.Prefix.{Begins, Longest}
 use Rattle.words.specs.Vocabulary.{DecimalFrom}
 use Rattle.words.specs.Walk.{Reaches}
 
--- how far a list goes: to its end, one byte less far, and in a longer list
+-- how far a list goes: one byte less far, and in a longer list
 module _ (Kind : List ℕ → Type 0) where
-  longest-all : (s : List ℕ) → Begins Kind s → Longest Kind s (length s)
-  longest-all s b =
-      record { within = omega arith; begins = rw (take-length s) b; furthest = λ j h g _. absurd (omega arith) }
-
   longest-snoc : (s : List ℕ) (c i : ℕ) → Longest Kind s i → (Begins Kind (s ++ (c ∷ [])) → ⊥)
       → Longest Kind (s ++ (c ∷ [])) i
-  longest-snoc s c i l f =
-      record {
-        within = omega (arith, l.within, length-append s (c ∷ []));
-        begins = rw (take-append-le i s (c ∷ []) l.within) l.begins;
-        furthest = λ j h g b.
-            by_cases (leb j (length s))
-            (λ e. let less : j ≤ length s = leb-true j (length s) e in
-            l.furthest j h less (rw (take-append-le j s (c ∷ []) less) at b))
-            (λ e. let all : length (s ++ (c ∷ [])) ≤ j
-            = omega (arith, leb-false j (length s) e, length-append s (c ∷ [])) in
-            f (rw (take_all j (s ++ (c ∷ [])) all) at b));
-      }
+  longest-snoc s c i l f = search (rules, length-append, take-append-le, take_all)
 
   pub longest-front : (s : List ℕ) (k i : ℕ) → k ≤ length s → Longest Kind (take k s) i
       → ((j : ℕ) → k < j → j ≤ length s → Begins Kind (take j s) → ⊥) → Longest Kind s i
-  longest-front s k i h l f =
-      let long : length (take k s) ≡ k = length-take-le k s h in
-      let less : i ≤ k = omega (arith, l.within) in
-      record {
-        within = omega arith;
-        begins = rw (← take-take i k s less) l.begins;
-        furthest = λ j p g b.
-            by_cases (leb j k)
-            (λ e. l.furthest j p (omega (arith, leb-true j k e)) (rw (take-take j k s (leb-true j k e)) b))
-            (λ e. f j (leb-false j k e) g b);
-      }
+  longest-front s k i h l f = search (rules, length-take-le, take-take)
 
 -- what begins with the digits of a number is no less
 begins-le : {least most : ℕ} (v : ℕ) (b : Begins (DecimalFrom least most) (decimal v)) → v ≤ b.whole.number
@@ -60,8 +36,7 @@ begins-le v b =
 
 module _ (least most v : ℕ) where
   begins-itself : least ≤ v → v ≤ most → Begins (DecimalFrom least most) (decimal v)
-  begins-itself l h =
-      record { rest = []; whole = record { number = v; large = l; small = h; digits = append-nil (decimal v) } }
+  begins-itself l h = search rules
 
   -- one digit more than a number within the tenth parts of the limits
   begins-on : 0 < v → least ≤ most → Begins (DecimalFrom (least / 10) (most / 10)) (decimal v)
@@ -144,9 +119,7 @@ module _ (least most : ℕ) (order : least ≤ most) where
       }
 
   one-digit : (c : ℕ) → (Begins (DecimalFrom least most) (c ∷ []) → ⊥) → Longest (DecimalFrom least most) (c ∷ []) 0
-  one-digit c f =
-      longest-snoc (DecimalFrom least most) [] c 0
-      (record { within = omega arith; begins = begins-nothing; furthest = λ j h g _. absurd (omega arith) }) f
+  one-digit c f = search (rules, longest-snoc, begins-nothing)
 
   pub longest-zero : 0 < least → Longest (DecimalFrom least most) (decimal 0) 0
   longest-zero h =
@@ -161,9 +134,6 @@ module _ (least most : ℕ) (order : least ≤ most) where
           let same : 0x30 ≡ get_or (decimal n) 0 0 = ap (λ (s : List ℕ). get_or s 0 0) e in omega arith
 
   module _ (v : ℕ) (answer : Bool) (q : Reaches least most v answer) where
-    pub longest-reached : answer ≡ true → Longest (DecimalFrom least most) (decimal v) (length (decimal v))
-    longest-reached e = longest-all (DecimalFrom least most) (decimal v) (q.some e)
-
     pub longest-digit : answer ≡ false → v < 10 → Longest (DecimalFrom least most) (decimal v) 0
     longest-digit e h = rw (decimal-below v h) (one-digit (digit v) (rw (decimal-below v h) at (q.none e)))
 

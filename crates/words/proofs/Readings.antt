@@ -1,17 +1,15 @@
 -- How far a text goes with a word, with a digest, with residues.
-use Prim.Native.Nat.{ℕ, zero, suc, ◌+◌, ◌-◌, ◌<◌, ◌≤◌, min}
+use Rattle.std.proofs.Common.{rules}
+use Prim.Native.Nat.{ℕ, zero, suc, ◌+◌, ◌-◌, ◌≤◌, min}
 use native.Mathlib.Nat.{add-sub_cancel_left}
 use native.Mathlib.Omega.{arith}
 use mathlib.Core.Path.{◌≡◌, refl, ◌∙◌, sym, ap}
 use mathlib.Core.Bool.{Bool, true}
 use mathlib.Core.List.{List, ◌++◌}
-use lib.Dec.{ltb}
 use lib.ListN.{length, take, drop, replicate, length-append, length-take, length-drop, length-replicate}
 use lib.ListN.{take-append-drop}
 use lib.Seq.{length-take-le, take_all, take-take}
-use borrow.Author.Tests.{ltb-true, ltb-false}
 use Rattle.stretch.specs.Common.{lcp}
-use Rattle.stretch.proofs.Cases.{by_cases}
 use Rattle.stretch.proofs.Common.{lcp-le-left, lcp-le-right, lcp-take, lcp-past}
 use Rattle.stretch.specs.Class.{every, first_outside}
 use Rattle.alphabets.specs.Alphabets.{residue, base64url, foreign, digest_length}
@@ -24,14 +22,7 @@ use Rattle.words.specs.Walk.{Goes, Stops}
 -- the first so many bytes from a place on, as lending them shows it
 pub lent-most : (l : List ℕ) (place most : ℕ)
     → take (place + min most (length l - place) - place) (drop place l) ≡ take most (drop place l)
-lent-most l place most =
-    rw (add-sub_cancel_left place (min most (length l - place)))
-    (by_cases (ltb most (length l - place))
-    (λ e. let less : most < length l - place = ltb-true most (length l - place) e in
-    let same : min most (length l - place) ≡ most = omega arith in rw same)
-    (λ e. let more : length l - place ≤ most = ltb-false most (length l - place) e in
-    take_all (min most (length l - place)) (drop place l) (simp length-drop (omega arith))
-    ∙ sym (take_all most (drop place l) (simp length-drop (omega arith)))))
+lent-most l place most = search (rules, add-sub_cancel_left, take_all, length-drop)
 
 -- one word: as far as the two agree
 module _ (w s : List ℕ) (n : ℕ) (shared : n ≡ lcp w s) where
@@ -74,9 +65,7 @@ module _ (p : ℕ → Bool) (most : ℕ) (s : List ℕ) (n : ℕ) (first : n ≡
       rw (← take-take n most s first-few, first) (first_outside-take p (take most s))
 
   first-max : (j : ℕ) (rest : List ℕ) → j ≤ length s → j ≤ most → every p (take j s ++ rest) ≡ true → j ≤ n
-  first-max j rest h g e =
-      rw first (first_outside-max p (take most s) j (omega (arith, length-take most s))
-      (rw (take-take j most s g) (every_front p (take j s) rest e)))
+  first-max j rest h g e = search (rules, first_outside-max, length-take, take-take, every_front)
 
 -- characters that make up a digest text
 every-filled : (k : ℕ) → every base64url (replicate k 0x41) ≡ true

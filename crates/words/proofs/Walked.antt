@@ -1,8 +1,9 @@
 -- A walk over the words of a layout: what it has found in the text, or how far the text goes.
+use Rattle.std.proofs.Common.{rules}
 use Prim.Native.Nat.{ℕ, ◌+◌, ◌-◌, ◌<◌, ◌≤◌}
 use native.Mathlib.Omega.{arith}
-use mathlib.Core.Logic.{◌⊎◌, ⊎_elim}
-use mathlib.Core.Path.{◌≡◌, refl, ◌∙◌, sym, ap, subst}
+use mathlib.Core.Logic.{◌⊎◌, inl, ⊎_elim}
+use mathlib.Core.Path.{◌≡◌, refl, ◌∙◌, sym, ap}
 use mathlib.Core.Bool.{true, false}
 use mathlib.Core.List.{List, [], ◌++◌, append_assoc, append-nil}
 use lib.ListN.{length, take, drop, length-drop, drop_of_length-le}
@@ -10,10 +11,11 @@ use lib.Seq.{drop-drop}
 use Rattle.stretch.specs.Part.{part}
 use Rattle.stretch.proofs.Cases.{by_cases}
 use Rattle.stretch.proofs.Interval.{length_part, drop-start}
-use Rattle.words.specs.declared.Walk.{Walk}
+use Rattle.words.specs.Walk.{Walk}
 use Rattle.words.specs.Prefix.{Refuses}
 use Rattle.words.specs.Vocabulary.{Word, Digest, Residues}
 use Rattle.words.specs.Walk.{Onward, Counts}
+use Rattle.words.proofs.Onwards.{onward-stopped}
 use Rattle.words.proofs.Following.{Then, Done, Apart, goes-only, goes-longest, stops-refuses, done-refuses}
 use Rattle.words.proofs.Following.{refuses-alike}
 use Rattle.words.proofs.Layouts.{Sort, word_sort, digest_sort, residues_sort, number_sort, Layout, close, then}
@@ -49,6 +51,17 @@ Walked close text a b = b ≡ a
 Walked (then s next) text a b = (c : Walk) × (v : s.Value) × Step s text a c v × Walked (next v) text c b
 
 module _ (text : List ℕ) where
+  -- a walk that is off goes past all words where it is
+  pub walked-off : (l : Layout) (a : Walk) → a.at ≤ length text → a.on ≡ false → Walked l text a a
+  walked-off close a h f = refl
+  walked-off (then s next) a h f =
+      let step : Step s text a a s.some = record {
+        onward = onward-stopped s.Kind text a h f;
+        fits = λ t _. cc;
+        means = λ t _. cc;
+      } in
+      (a, s.some, step, walked-off (next s.some) a h f)
+
   -- a walk that is off stays where it is
   stays : (l : Layout) (a b : Walk) → Walked l text a b → a.on ≡ false → b ≡ a
   stays close a b w f = w
@@ -124,9 +137,7 @@ module _ (text : List ℕ) where
 
       next-laid : (t : List ℕ) → Next s next (take steps left) t → Laid (next v) t
       unfolding left steps
-      next-laid t n =
-          let same : n.value ≡ v = s.once n.value v (sym n.means ∙ o.means on e) in
-          subst (λ (u : s.Value). Laid (next u) t) same n.follows
+      next-laid t n = search (rules)
 
       step-refuses : (i : ℕ) → Refuses (Laid (next v)) (drop c.at text) i
           → Refuses (Then s.Kind (Next s next)) left (steps + i)
@@ -149,7 +160,7 @@ module _ (text : List ℕ) where
       let at : b.at ≡ a.at = ap (λ (c : Walk). c.at) w in
       let none : b.at - a.at ≡ 0 = omega (arith, at) in
       let more : 0 < length (drop a.at text) = ⊎_elim
-      (λ g. let z : ◌≡◌ {A = ℕ} 0 1 = cc (ap (λ (c : Walk). c.on) w) in absurd (omega arith))
+      (λ g. cc (ap (λ (c : Walk). c.on) w))
       (λ g. let q : a.at ≡ length text → ⊥ = λ m. g (at ∙ m) in rw length-drop (by_less q)) f in
       rw none
       (refuses-alike Done (Laid close) (λ t e. record { values = tt; laid = e }) (λ t l. l.laid) (drop a.at text) 0
@@ -186,3 +197,9 @@ module _ {Kind : List ℕ → Type 0} {l : Layout} (out : LaidOut Kind l) (text 
       refuses-alike (Laid l) Kind (λ t k. out.kind t k.values k.laid)
       (λ t k. record { values = out.values t k; laid = out.laid t k }) text b.at
       (rw e at (refuses text l out.sound begun b w refl (omega arith) f))
+
+-- a walk that is off before some words of the layout
+pub stopped-refuses : {Kind : List ℕ → Type 0} {l : Layout} (out : LaidOut Kind l) (text : List ℕ) (rest : Layout)
+    (b : Walk) → (Walked rest text b b → Walked l text begun b) → b.at ≤ length text → b.on ≡ false
+    → Refuses Kind text b.at
+stopped-refuses out text rest b whole h f = walked-refuses out text b (whole (walked-off text rest b h f)) (inl f)

@@ -1,10 +1,29 @@
 -- How a text is read: by words, each of which goes on from where the one before it ended.
-use Rattle.std.specs.Prelude.{ℕ, ◌-◌, ◌<◌, ◌≤◌, ◌≡◌, Bool, true, false, List, length, take, drop}
+use Rattle.std.specs.Prelude.{ℕ, ◌-◌, ◌<◌, ◌≤◌, ◌≡◌, Bool, true, false, List, length, take, drop, Result, Ok, Err}
 use Rattle.stretch.specs.Part.{part}
 use Rattle.decimals.specs.Decimal.{decimal}
-use Rattle.words.specs.declared.Walk.{Walk}
+use Rattle.words.specs.declared.Counted.{Counted}
+use Rattle.words.specs.declared.Stopped.{Stopped}
 use Rattle.words.specs.Prefix.{Begins, Longest}
 use Rattle.words.specs.Vocabulary.{DecimalFrom}
+
+-- how far a text is read, and whether it may go on from there
+pub record Walk : Type 0 where
+  pub at : ℕ
+  pub on : Bool
+
+abbrev pub walk_of : Result ℕ Stopped → Walk
+walk_of (Ok at) = record { at = at; on = true }
+walk_of (Err stopped) = record { at = stopped.at; on = false }
+
+-- past a decimal, and its number: 0 where it stops
+abbrev pub counted_walk : Result Counted Stopped → Walk
+counted_walk (Ok counted) = record { at = counted.at; on = true }
+counted_walk (Err stopped) = record { at = stopped.at; on = false }
+
+abbrev pub number_of : Result Counted Stopped → ℕ
+number_of (Ok counted) = counted.number
+number_of (Err stopped) = 0
 
 -- the first k bytes of s are a word, and no more of s begins one
 pub record Goes (Kind : List ℕ → Type 0) (s : List ℕ) (k : ℕ) : Type 0 where

@@ -10,16 +10,19 @@ mod words;
 
 pub use words::{past_decimal, past_digest, past_residues, past_word};
 
-// How far a text is read, and whether it may go on from there.
+// Where a walk stopped for good.
 #[derive(Clone, Copy)]
-pub struct Walk {
+pub struct Stopped {
     pub at: usize,
-    pub on: bool,
 }
 
-// A walk past a decimal, and its number.
+// How far a text is read: the place from which the walk goes on, or where it stopped. That it lies in the text is a
+// clause of each step, since the text is lent beside it.
+pub type Walk = Result<usize, Stopped>;
+
+// Where a decimal ends, and its number.
 #[derive(Clone, Copy)]
 pub struct Counted {
-    pub walk: Walk,
+    pub at: usize,
     pub number: u64,
 }

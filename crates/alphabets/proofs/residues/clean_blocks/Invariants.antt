@@ -1,12 +1,12 @@
--- The loop's invariant: the first foreign byte is that of what is left.
-use Prim.Native.Nat.{◌+◌, ◌≤◌, ◌-◌}
-use mathlib.Core.Path.{◌≡◌}
-use lib.ListN.{length, drop}
-use Rattle.alphabets.specs.Alphabets.{foreign}
+-- The loop's invariant: it has passed residues alone.
+use Rattle.std.specs.Slice.Iter.{chunks_exact_rest}
+use Rattle.alphabets.specs.Alphabets.{residue}
+use Rattle.alphabets.proofs.Asked.{Passed}
 use Rattle.alphabets.proofs.residues.clean_blocks.Given as goal
 
-abbrev pub invariant-loop-i : goal.invariant-loop-i
-invariant-loop-i l = (l.i ≤ length l.s) × (foreign l.s ≡ l.i + foreign (drop l.i l.s))
-
-abbrev pub decreases-loop-i : goal.decreases-loop-i
-decreases-loop-i l = length l.s - l.i
+abbrev pub invariant-loop-block : goal.invariant-loop-block
+invariant-loop-block l = record {
+  can_next : (goal.iterator-loop-block).can_next l.block-iterator;
+  is_finite : (goal.iterator-loop-block).is_finite l.block-iterator;
+  passed : Passed residue l.s (chunks_exact_rest l.block-iterator) l.clean;
+}

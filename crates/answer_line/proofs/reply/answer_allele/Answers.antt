@@ -6,14 +6,14 @@ use Rattle.answer_line.proofs.reply.answer_allele.Goals as goal
 
 pub answer_form-requires : goal.answer_form-requires
 answer_form-requires c =
-    record { fits = clean-fits _ _ _ _ _ c.in-Accepted.ensures; room = c.requires }
+    record { fits = clean-fits _ _ _ _ _ c.in-Ok.ensures; room = c.requires }
 
-pub returns-in-Accepted : goal.returns-in-Accepted
-returns-in-Accepted c =
-    wrote_as _ _ _ _ _ (accepted-line _ _ _ _ _ c.in-Accepted.ensures)
+pub returns-in-Ok : goal.returns-in-Ok
+returns-in-Ok c =
+    wrote_as _ _ _ _ _ (accepted-line _ _ _ _ _ c.in-Ok.ensures)
     c.answer_form.ensures
 
-pub returns-in-Refused : goal.returns-in-Refused
-returns-in-Refused c =
-    wrote_as _ _ _ _ _ (refused-line _ _ _ _ _ c.in-Refused.ensures)
-    c.write_refused.ensures
+pub returns-in-Err : goal.returns-in-Err
+returns-in-Err c =
+    wrote_as _ _ _ _ _ (refused-line _ _ _ _ _ c.in-Err.ensures)
+    (rw c.from.ensures at c.write_refused.ensures)

@@ -10,4 +10,4 @@ put_number-requires c =
 
 pub returns : goal.returns
 unfolding marked
-returns c = rw (c.put_number.ensures, c.record_at.ensures.0)
+returns c = rw (c.put_number.ensures, c.record_at.ensures.0, c.from-code.ensures)

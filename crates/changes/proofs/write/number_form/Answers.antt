@@ -1,7 +1,9 @@
 -- Four writes, each by what was read before them.
 use Prim.Native.Nat.{ℕ, ◌+◌}
 use native.Mathlib.Omega.{arith}
-use mathlib.Core.Path.{ap}
+use mathlib.Core.Path.{sym, ap}
+use Rattle.stretch.specs.Three.{whole}
+use Rattle.stretch.proofs.Join.{length_three}
 use Rattle.image.proofs.Arranged.{status-inside}
 use Rattle.changes.proofs.Rows.{numbered-as}
 use Rattle.changes.proofs.write.number_form.Goals as goal
@@ -42,8 +44,8 @@ returns c =
       c.put_replacement.ensures,
       c.put_record.ensures,
     )
-    (numbered-as c.args.image.now c.args.form c.args.a.now c.args.b.now c.args.c.now
-    _ _ _ _ _ _ c.requires.length_value
+    (numbered-as c.args.image.now c.args.form (whole c.args.text) _ _ _ _ _ _
+    (sym (length_three _ _ _ _ c.requires.length_value))
     (ap (λ (n : ℕ). n + 1) c.read_number-number.ensures.0)
     c.read_number-used.ensures.0
     c.read_number-pool.ensures.0

@@ -1,14 +1,8 @@
 -- After i turns the characters of the first i groups stand at the front.
-use Prim.Native.Nat.{◌*◌, ◌≤◌, ◌-◌}
-use mathlib.Core.Path.{◌≡◌}
-use lib.ListN.{length, take}
+use Rattle.std.proofs.Common.{◌≡◌, ◌*◌, take}
 use Rattle.stretch.specs.Over.{over}
 use Rattle.digest_text.specs.Base64.{encoded}
 use Rattle.digest_text.proofs.base64.write_digest_text.Given as goal
 
 abbrev pub invariant-loop-i : goal.invariant-loop-i
-invariant-loop-i l = (l.i ≤ 8)
-    × ((length l.out ≡ length l.initial.out) × (l.out ≡ over l.initial.out 0 (encoded (take (l.i * 3) l.digest))))
-
-abbrev pub decreases-loop-i : goal.decreases-loop-i
-decreases-loop-i l = 8 - l.i
+invariant-loop-i l = l.out ≡ over l.initial.out 0 (encoded (take (l.i * 3) l.digest))

@@ -1,22 +1,30 @@
 -- 1 to 5, and 12 after them.
-use mathlib.Core.Path.{◌∙◌, sym}
-use Rattle.entry.proofs.EntryTests.{change-none, change-found, change-unfound}
+use mathlib.Core.Path.{◌≡◌, ◌∙◌}
+use mathlib.Core.Bool.{true, false}
+use Rattle.std.proofs.Common.{rules}
+use Rattle.refusal.proofs.HandedOn.{handed_on}
+use Rattle.entry.specs.Inner.{unchanged}
+use Rattle.entry.proofs.EntryTests.{unchanged-not, change-none, change-found, change-unfound}
 use Rattle.entry.proofs.allele.check_change.Goals as goal
+use Rattle.entry.proofs.allele.check_change.Goals.{in-Unchanged, in_default}
 
-pub returns-then-is_unchanged : goal.returns-then-is_unchanged
-returns-then-is_unchanged c =
-    rw c.refuse.ensures
-    (change-none c.args.reference.now c.args.start c.args.end c.args.replacement.now _
-    c.in-Accepted.ensures
-    (sym c.is_unchanged.ensures ∙ c.if-is_unchanged.true))
+pub returns-in_err-w : goal.returns-in_err-w
+returns-in_err-w c = handed_on _ _ c.from_residual.ensures.1 ∙ change-unfound _ _ _ _ _ c.in_err-w.ensures
 
-pub returns-else-is_unchanged : goal.returns-else-is_unchanged
-returns-else-is_unchanged c =
-    change-found c.args.reference.now c.args.start c.args.end c.args.replacement.now _
-    c.in-Accepted.ensures
-    (sym c.is_unchanged.ensures ∙ c.if-is_unchanged.false)
+pub returns-then-matches : goal.returns-then-matches
+returns-then-matches c =
+    let kind : unchanged c.in_ok-w.w.kind ≡ true =
+    elim c.match-matches.branch [
+      | in-Unchanged w ↦ search rules
+      | in_default w ↦ cc
+    ] in
+    rw c.refuse.ensures (change-none _ _ _ _ _ c.in_ok-w.ensures kind)
 
-pub returns-in-Refused : goal.returns-in-Refused
-returns-in-Refused c =
-    change-unfound c.args.reference.now c.args.start c.args.end c.args.replacement.now _
-    c.in-Refused.ensures
+pub returns : goal.returns
+returns c =
+    let kind : unchanged c.in_ok-w.w.kind ≡ false =
+    elim c.match-matches.branch [
+      | in-Unchanged w ↦ cc
+      | in_default w ↦ unchanged-not _ w.in_default.not-Unchanged
+    ] in
+    change-found _ _ _ _ _ c.in_ok-w.ensures kind

@@ -1,21 +1,14 @@
 -- The tests, and the form after them.
+use Rattle.refusal.proofs.HandedOn.{handed_on}
 use Rattle.entry.proofs.EntryTests.{change-fits, enters-allele, enters-no-allele}
 use Rattle.entry.proofs.allele.enter_allele.Goals as goal
 
-pub enter_stretches-requires : goal.enter_stretches-requires
-enter_stretches-requires c = record {
-  header = c.requires.header;
-  image_value = c.requires.image_value;
-  fits = change-fits c.args.reference.now c.args.start c.args.end c.args.replacement.now _
-      c.in-Accepted.ensures;
-}
+pub returns-in_err-w : goal.returns-in_err-w
+returns-in_err-w c =
+    rw (handed_on _ _ c.from_residual.ensures.1) (enters-no-allele _ _ _ _ _ _ c.in_err-w.ensures)
 
-pub returns-in-Accepted : goal.returns-in-Accepted
-returns-in-Accepted c =
-    enters-allele c.args.reference.now c.args.start c.args.end c.args.replacement.now _
-    c.in-Accepted.ensures _ _ _ c.enter_stretches.ensures
+pub enter_stretches-requires-clause-fits : goal.enter_stretches-requires-clause-fits
+enter_stretches-requires-clause-fits c = change-fits _ _ _ _ _ c.in_ok-w.ensures
 
-pub returns-in-Refused : goal.returns-in-Refused
-returns-in-Refused c =
-    enters-no-allele c.args.reference.now c.args.start c.args.end c.args.replacement.now _ _
-    c.in-Refused.ensures
+pub returns : goal.returns
+returns c = enters-allele _ _ _ _ _ c.in_ok-w.ensures _ _ _ c.enter_stretches.ensures

@@ -2,25 +2,43 @@
 use mathlib.Core.Path.{◌∙◌, sym}
 use Rattle.image.proofs.Tested.{header-tested, formed-steps}
 use Rattle.image.proofs.formed.well_formed.Goals as goal
-
-pub returns-then-not-header_formed : goal.returns-then-not-header_formed
-returns-then-not-header_formed c = rw (formed-steps _, sym c.header_formed.ensures ∙ c.if-not-header_formed.true)
+use Rattle.image.proofs.formed.well_formed.Goals.{then-header_formed, else-header_formed}
 
 pub records_formed-requires : goal.records_formed-requires
-records_formed-requires c = header-tested _ (sym c.header_formed.ensures ∙ c.if-not-header_formed.false)
-
-pub returns-then-not-records_formed : goal.returns-then-not-records_formed
-returns-then-not-records_formed c =
-    let header = sym c.header_formed.ensures ∙ c.if-not-header_formed.false in
-    let records = sym c.records_formed.ensures ∙ c.if-not-records_formed.true in
-    rw (formed-steps _, header, records)
+records_formed-requires c = header-tested _ (sym c.header_formed.ensures ∙ c.if-header_formed.true)
 
 pub journal_formed-requires : goal.journal_formed-requires
 journal_formed-requires c =
-    header-tested _ (sym c.header_formed.ensures ∙ c.if-not-header_formed.false)
+    elim c.if-header_formed.branch [
+      | then-header_formed w ↦ header-tested _ (sym c.header_formed.ensures ∙ w.if-header_formed.true)
+      | else-header_formed w ↦ cc
+    ]
 
-pub returns : goal.returns
-returns c =
-    let header = sym c.header_formed.ensures ∙ c.if-not-header_formed.false in
-    let records = sym c.records_formed.ensures ∙ c.if-not-records_formed.false in
-    rw (formed-steps _, header, records) c.journal_formed.ensures
+pub returns-then-records_formed : goal.returns-then-records_formed
+returns-then-records_formed c =
+    elim c.if-header_formed.branch [
+      | then-header_formed w ↦ rw (
+        formed-steps _,
+        ← c.header_formed.ensures,
+        w.if-header_formed.true,
+        ← w.records_formed.ensures,
+        ← w.value-is,
+        c.if-records_formed.true,
+      ) c.journal_formed.ensures
+      | else-header_formed w ↦ cc
+    ]
+
+pub returns-else-records_formed : goal.returns-else-records_formed
+returns-else-records_formed c =
+    elim c.if-header_formed.branch [
+      | then-header_formed w ↦ rw (
+        formed-steps _,
+        ← c.header_formed.ensures,
+        w.if-header_formed.true,
+        ← w.records_formed.ensures,
+        ← w.value-is,
+        c.if-records_formed.false,
+      )
+      | else-header_formed w ↦
+          c.if-records_formed.false ∙ sym (rw (formed-steps _, ← c.header_formed.ensures, w.if-header_formed.false))
+    ]

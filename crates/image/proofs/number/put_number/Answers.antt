@@ -1,17 +1,13 @@
--- Four stores in a row are one write of four bytes.
-use native.Mathlib.Omega.{arith}
-use lib.ListN.{length-set}
-use Rattle.image.proofs.Numbers.{put_four}
+use native.Mathlib.Nat.{add-sub_cancel_left}
+use mathlib.Core.Path.{◌∙◌, ap}
+use lib.ListN.{take}
+use Rattle.stretch.specs.Over.{over}
+use Rattle.image.specs.Numbers.{put, bytes}
+use Rattle.image.proofs.Numbers.{take-to_le_bytes}
 use Rattle.image.proofs.number.put_number.Goals as goal
 
-pub bounds-image-at-2 : goal.bounds-image-at-2
-bounds-image-at-2 c = simp length-set (omega arith)
-
-pub bounds-image-at-3 : goal.bounds-image-at-3
-bounds-image-at-3 c = simp length-set (omega arith)
-
-pub bounds-image-at-4 : goal.bounds-image-at-4
-bounds-image-at-4 c = simp length-set (omega arith)
-
 pub returns : goal.returns
-returns c = put_four c.args.image.now c.args.at c.args.value c.requires
+unfolding put over bytes
+returns c =
+    let e = c.copy_from_slice.ensures.after ∙ ap (take 4) c.to_le_bytes.ensures ∙ take-to_le_bytes c.args.value in
+    rw (e, add-sub_cancel_left c.args.at 4)

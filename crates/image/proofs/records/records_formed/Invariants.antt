@@ -1,5 +1,5 @@
 -- The loop's invariant: the records passed are placed, and their lengths are summed.
-use Prim.Native.Nat.{◌*◌, ◌-◌, ◌^◌, ◌≤◌}
+use Prim.Native.Nat.{◌*◌, ◌^◌, ◌≤◌}
 use mathlib.Core.Path.{◌≡◌}
 use mathlib.Core.Bool.{true}
 use Rattle.stretch.specs.Below.{below}
@@ -11,6 +11,3 @@ abbrev pub invariant-loop-passed : goal.invariant-loop-passed
 invariant-loop-passed l =
     (l.passed ≤ l.issued) × (l.residues ≡ lengths l.image l.passed) × (l.residues ≤ 2 ^ 32 * l.passed)
     × (below (placed l.image) l.passed ≡ true)
-
-abbrev pub decreases-loop-passed : goal.decreases-loop-passed
-decreases-loop-passed l = l.issued - l.passed

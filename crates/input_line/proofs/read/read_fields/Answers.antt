@@ -1,6 +1,5 @@
 -- Each return is what the fields say there.
-use native.Mathlib.Omega.{arith}
-use mathlib.Core.Path.{◌∙◌, sym}
+use Rattle.std.proofs.Common.{◌≡◌, ◌∙◌, sym, arith, None}
 use Rattle.input_line.proofs.Fields.{reads_nothing, no_third, crowded-unread, three-fields}
 use Rattle.input_line.proofs.read.read_fields.Goals as goal
 
@@ -13,20 +12,22 @@ returns-then-next-line c =
     reads_nothing _ (crowded-unread _ c.args.first c.args.second c.requires
     (omega (arith, c.next.ensures)))
 
-pub returns-in_default : goal.returns-in_default
-returns-in_default c =
-    reads_nothing _ (three-fields _ c.args.first c.args.second c.requires c.if-third-line.false
+pub returns-in_err-start : goal.returns-in_err-start
+returns-in_err-start c =
+    let none : c.from_residual.result ≡ None = c.from_residual.ensures in
+    rw none (reads_nothing _ (three-fields _ c.args.first c.args.second c.requires c.if-third-line.false
     c.next.result c.next.ensures c.if-next-line.false
-    ∙ rw (sym c.in_default.ensures))
+    ∙ rw (sym c.read_decimal.ensures ∙ c.in_err-start.was)))
 
-pub returns-in_default-read_decimal : goal.returns-in_default-read_decimal
-returns-in_default-read_decimal c =
-    reads_nothing _ (three-fields _ c.args.first c.args.second c.requires c.if-third-line.false
+pub returns-in_err-end : goal.returns-in_err-end
+returns-in_err-end c =
+    let none : c.from_residual-in_err-end.result ≡ None = c.from_residual-in_err-end.ensures in
+    rw none (reads_nothing _ (three-fields _ c.args.first c.args.second c.requires c.if-third-line.false
     c.next.result c.next.ensures c.if-next-line.false
     ∙ rw (
-      sym c.in-Is.ensures,
-      sym c.in_default-read_decimal.ensures,
-    ))
+      sym c.read_decimal.ensures ∙ c.in_ok-start.was,
+      sym c.read_decimal-2.ensures ∙ c.in_err-end.was,
+    )))
 
 pub returns : goal.returns
 returns c =
@@ -35,8 +36,8 @@ returns c =
           c.requires c.if-third-line.false c.next.result
           c.next.ensures c.if-next-line.false
           ∙ rw (
-            sym c.in-Is.ensures,
-            sym c.in-Is-read_decimal.ensures,
+            sym c.read_decimal.ensures ∙ c.in_ok-start.was,
+            sym c.read_decimal-2.ensures ∙ c.in_ok-end.was,
             ← c.replacement_from-from.ensures.0,
           ));
       inside = c.replacement_from-from.ensures.1;

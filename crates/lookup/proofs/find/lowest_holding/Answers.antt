@@ -1,40 +1,21 @@
-use native.Mathlib.Omega.{arith}
-use mathlib.Core.Path.{◌≡◌, refl, ◌∙◌, sym}
-use Rattle.image.specs.Fields.{issued}
-use Rattle.lookup.specs.Lookup.{lowest, lowest_holding}
-use Rattle.lookup.proofs.Lowest.{lowest-next, lowest-here}
+-- The numbers from 1 to those issued, in order.
+use mathlib.Core.Path.{◌≡◌, ◌∙◌, ap}
+use mathlib.Core.Bool.{true, false}
+use borrow.Author.Tests.{tests}
+use Rattle.std.proofs.Common.{rules}
+use Rattle.std.proofs.lemmas.Iterator.{first_from_Range}
+use Rattle.image.specs.Statuses.{code_of}
+use Rattle.stretch.specs.Three.{whole}
+use Rattle.lookup.specs.Lookup.{asked, holds, lowest, lowest_holding}
+use Rattle.lookup.proofs.Lowest.{lowest-from_find}
 use Rattle.lookup.proofs.find.lowest_holding.Goals as goal
 
-pub loop-number-init : goal.loop-number-init
-unfolding lowest
-loop-number-init c = (omega arith, refl)
-
-pub holds_form-requires : goal.holds_form-requires
-holds_form-requires c =
-    record {
-      header = c.requires.header;
-      image_value = c.requires.image_value;
-      le_number = (omega arith, omega (arith, c.read_number-issued.ensures.0));
-      length_value = c.requires.length_value;
-    }
-
-pub returns-then-holds_form : goal.returns-then-holds_form
+pub returns-clause-lowest : goal.returns-clause-lowest
 unfolding lowest_holding
-returns-then-holds_form c =
-    let e = c.read_number-issued.ensures.0 in
-    let passes = sym c.holds_form.ensures ∙ c.if-holds_form.true in
-    (sym (lowest-here _ c.loop-number.number _ (omega (arith, e)) c.loop-number.invariant.1 passes), omega (arith, e))
-
-pub loop-number-preserved : goal.loop-number-preserved
-loop-number-preserved c = (
-  omega arith,
-  lowest-next _ c.loop-number.number c.loop-number.invariant.1
-      (sym c.holds_form.ensures ∙ c.if-holds_form.false),
-)
-
-pub returns : goal.returns
-unfolding lowest_holding
-returns c =
-    let b = c.args.image.now in
-    let e : c.loop-number.number ≡ issued b = omega (arith, c.read_number-issued.ensures.0) in
-    (sym (rw (← e) c.loop-number.invariant.1), omega arith)
+returns-clause-lowest c =
+    let s = c.args in
+    let test = holds s.image.now (code_of s.status) (asked s.form (whole s.text)) in
+    lowest-from_find test c.read_number.result _
+    (first_from_Range _ _ _ _ (λ i. test i ≡ true) (λ i. test i ≡ false) c.find.ensures.ran
+    (λ x q k. search (rules, tests)) (λ x q k. search (rules, tests)))
+    ∙ ap (lowest test) c.read_number.ensures.0

@@ -1,15 +1,9 @@
--- How far the replacement agrees with the reference tells the form.
-use mathlib.Core.Path.{◌∙◌}
-use Rattle.normal_form.proofs.Spot.{spot-agrees, spot-stretches}
+-- The replacement is read as it is given.
+use mathlib.Core.List.{map-id}
 use Rattle.normal_form.proofs.engine.normalise.Goals as goal
 
-pub form_by_agreement-requires : goal.form_by_agreement-requires
-form_by_agreement-requires c =
-    spot-agrees c.args.reference.now c.args.start c.args.end c.args.replacement.now c.requires _ _
-    c.common_prefix-ahead.ensures c.common_suffix-behind.ensures
+pub normalise_read-requires : goal.normalise_read-requires
+normalise_read-requires c = rw map-id c.requires
 
 pub returns : goal.returns
-returns c =
-    c.form_by_agreement.ensures
-    ∙ spot-stretches c.args.reference.now c.args.start c.args.end c.args.replacement.now c.requires _ _
-    c.common_prefix-ahead.ensures c.common_suffix-behind.ensures
+returns c = rw map-id at c.normalise_read.ensures

@@ -4,6 +4,7 @@ use mathlib.Core.Path.{◌≡◌}
 use mathlib.Core.List.{[], ◌∷◌}
 use lib.ListN.{length}
 use borrow.Author.Rules.{rules}
+use Rattle.refusal.proofs.HandedOn.{handed_on}
 use Rattle.refusal.specs.Grounds.{reference_over_limit}
 use Rattle.sequence_identifier.specs.Inner.{finish_answer}
 use Rattle.sequence_identifier.proofs.Tested.{tested-room, tested-writes, tested-silent}
@@ -12,19 +13,20 @@ use Rattle.sequence_identifier.proofs.running.finish.Goals as goal
 pub place_identifier-requires : goal.place_identifier-requires
 unfolding finish_answer
 place_identifier-requires c =
-    let told = c.in-Accepted.ensures in
+    let told = c.in_ok-check_finish.ensures in
     let long : length c.finish-hash.result ≡ 64 = search rules in
     record {
       digest_length_in_bounds = tested-room (reference_over_limit c.args.state.total ∷ []) _ _ _ told;
       in_bounds = omega arith;
     }
 
-pub returns-in-Accepted : goal.returns-in-Accepted
+pub returns : goal.returns
 unfolding finish_answer
-returns-in-Accepted c =
-    tested-writes _ _ _ _ _ _ c.in-Accepted.ensures
+returns c =
+    tested-writes _ _ _ _ _ _ c.in_ok-check_finish.ensures
     (rw (← c.finish-hash.ensures) c.place_identifier.ensures)
 
-pub returns-in-Refused : goal.returns-in-Refused
+pub returns-in_err-check_finish : goal.returns-in_err-check_finish
 unfolding finish_answer
-returns-in-Refused c = tested-silent _ _ _ _ _ c.in-Refused.ensures
+returns-in_err-check_finish c =
+    rw (handed_on _ _ c.from_residual.ensures.1) (tested-silent _ _ _ _ _ c.in_err-check_finish.ensures)

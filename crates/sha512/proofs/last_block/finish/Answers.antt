@@ -1,26 +1,23 @@
--- With fewer than 112 bytes waiting one block holds them and their padding, else two.
-use Rattle.std.proofs.Common.{◌≡◌, ℕ, ◌%◌, List, length, take, arith, length-take-le, rules}
+-- The bytes that wait and their padding, laid over the front of zeros, are whole blocks.
+use Rattle.std.proofs.Common.{◌≡◌, ◌∙◌, ℕ, ◌+◌, ◌-◌, ◌%◌, List, length, take, replicate, arith, length-take-le, rules}
+use Rattle.std.proofs.lemmas.List.{take-replicate}
 use Rattle.sha512_block.specs.Blocks.{block_size}
+use Rattle.sha512_padding.specs.Padding.{padding}
 use Rattle.sha512_padding.proofs.Padding.{zeros-for}
 use Rattle.sha512.specs.Feeding.{finished, waiting}
 use Rattle.sha512.proofs.last_block.finish.Goals as goal
 
-waits : (block : List ℕ) (n : ℕ) → length block ≡ block_size → length (take (n % block_size) block) ≡ n % block_size
-waits block n e = length-take-le _ _ (omega arith)
+blank : (block : List ℕ) (n k : ℕ) → length block ≡ block_size
+    → k ≡ n % block_size + 17 + (block_size - (n % block_size + 17) % block_size) % block_size
+    → take k (replicate {A = ℕ} 256 0) ≡ replicate (length (take (n % block_size) block) + length (padding n)) 0
+blank block n k e q = take-replicate k 256 0 (omega arith)
+    ∙ zeros-for _ n k (length-take-le _ _ (omega arith)) (omega arith)
 
 pub pad-requires-clause-out_value : goal.pad-requires-clause-out_value
 pad-requires-clause-out_value c =
-    zeros-for (take (c.args.state.total % block_size) c.args.state.block) c.args.state.total 128
-    (waits _ _ (search rules)) (omega arith)
-
-pub returns-then-waiting-lt112 : goal.returns-then-waiting-lt112
-unfolding finished waiting
-returns-then-waiting-lt112 c = cc
-
-pub pad-requires-2-clause-out_value : goal.pad-requires-2-clause-out_value
-pad-requires-2-clause-out_value c =
-    zeros-for (take (c.args.state.total % block_size) c.args.state.block) c.args.state.total 256
-    (waits _ _ (search rules)) (omega arith)
+    let s = c.args.state in
+    let long : length s.block ≡ block_size = search rules in
+    blank s.block s.total c.next_multiple_of-end.result long c.next_multiple_of-end.ensures.value
 
 pub returns : goal.returns
 unfolding finished waiting

@@ -1,21 +1,28 @@
--- Two halves of four words fill the 64 bytes.
-use Prim.Native.Nat.{ℕ}
-use native.Mathlib.Omega.{arith}
-use mathlib.Core.List.{◌++◌}
-use mathlib.Core.Path.{◌∙◌}
-use lib.ListN.{replicate, length-append}
-use Rattle.stretch.proofs.Over.{over-next, over-all}
-use Rattle.sha512_padding.specs.Padding.{hash_bytes, four_words}
-use Rattle.sha512_padding.proofs.Numbers.{length-four_words}
+-- The words' bytes, one word after another, fill the array.
+use Rattle.std.proofs.Common.{◌≡◌, ◌∙◌, ℕ, List, [], ◌∷◌, get_or, sym, refl, arith}
+use Rattle.stretch.proofs.Over.{over-nil, length_over}
+use Rattle.sha512_padding.specs.Padding.{bytes_of}
+use Rattle.sha512_padding.proofs.Numbers.{high_first, length-bytes_of, word-turn, words-all}
+use Rattle.sha512_padding.proofs.last_block.hash_bytes.Invariants.{zeros}
 use Rattle.sha512_padding.proofs.last_block.hash_bytes.Goals as goal
 
-pub returns : goal.returns
-unfolding hash_bytes
-returns c =
+pub loop-i-init : goal.loop-i-init
+loop-i-init c = record { long = refl; so_far = sym (over-nil zeros 0) }
+
+pub loop-i-preserved : goal.loop-i-preserved
+loop-i-preserved c =
     let s = c.args.s in
-    let left = four_words s.a s.b s.c s.d in
-    let right = four_words s.e s.f s.g s.h in
-    let zeros = replicate {A = ℕ} 64 0 in
-    rw (c.put_four-2.ensures, c.put_four.ensures)
-    (over-next zeros 0 32 left right (omega arith) (rw length-four_words)
-    ∙ over-all zeros (left ++ right) (simp (length-append, length-four_words)))
+    let i = c.loop-i.i in
+    let words : List ℕ = s.a ∷ s.b ∷ s.c ∷ s.d ∷ s.e ∷ s.f ∷ s.g ∷ s.h ∷ [] in
+    let bytes : c.to_be_bytes.result ≡ bytes_of 8 (get_or words i 0) = c.to_be_bytes.ensures ∙ high_first 8 _ in
+    let long = c.loop-i.invariant.long in
+    rw (c.copy_at.ensures, bytes)
+    (record {
+      long = length_over _ _ _ (omega (arith, length-bytes_of 8 (get_or words i 0))) ∙ long;
+      so_far = rw c.loop-i.invariant.so_far (word-turn zeros words i (omega arith));
+    })
+
+pub returns : goal.returns
+returns c =
+    let e : c.loop-i.i ≡ 8 = omega arith in
+    rw e at c.loop-i.invariant.so_far ∙ words-all zeros c.args.s refl

@@ -1,26 +1,26 @@
 -- Over zeros the head, its mark and the count of bits make the padded message.
-use Rattle.std.proofs.Common.{◌≡◌, ◌∙◌, ℕ, ◌+◌, List, length, replicate, ap, arith, length-set}
-use lib.ListN.{length-replicate}
-use Rattle.sha512_padding.specs.Padding.{padding}
-use Rattle.sha512_padding.proofs.Padding.{length-padding, pad-laid}
+use Rattle.std.proofs.Common.{◌≡◌, ℕ, ◌*◌, ◌∙◌, length, refl, ap, arith, length-set}
+use Rattle.sha512_padding.specs.Padding.{bytes_of}
+use Rattle.sha512_padding.proofs.Numbers.{high_first}
+use Rattle.sha512_padding.proofs.Padding.{zeros-long, pad-laid}
 use Rattle.sha512_padding.proofs.last_block.pad.Goals as goal
 
-long : (out head : List ℕ) (n : ℕ) → out ≡ replicate (length head + length (padding n)) 0
-    → length out ≡ length head + length (padding n)
-long out head n e = ap length e ∙ length-replicate _ _
+pub overflow_sub-length_at : goal.overflow_sub-length_at
+overflow_sub-length_at c = omega (arith, zeros-long _ _ _ c.requires.out_value)
 
 pub copy-requires : goal.copy-requires
-copy-requires c = omega (arith, long _ _ _ c.requires.out_value)
+copy-requires c = omega (arith, zeros-long _ _ _ c.requires.out_value)
 
 pub bounds-out-head : goal.bounds-out-head
-bounds-out-head c =
-    omega (arith, long _ _ _ c.requires.out_value, length-padding c.args.total)
+bounds-out-head c = omega (arith, zeros-long _ _ _ c.requires.out_value)
 
-pub put_length-requires : goal.put_length-requires
-put_length-requires c =
-    simp length-set (omega (arith, long _ _ _ c.requires.out_value, length-padding c.args.total))
+pub copy_at-requires : goal.copy_at-requires
+copy_at-requires c = let bits : length c.to_be_bytes.result ≡ 16 = ap length c.to_be_bytes.ensures in
+    omega (arith, zeros-long _ _ _ c.requires.out_value, length-set {A = ℕ})
 
 pub returns : goal.returns
 returns c =
-    rw (c.put_length.ensures, c.copy.ensures)
-    (pad-laid c.args.out.now c.args.head.now c.args.total c.requires.out_value c.requires.head_len)
+    let bits : c.to_be_bytes.result ≡ bytes_of 16 (c.args.total * 8) =
+    c.to_be_bytes.ensures ∙ high_first 16 _ ∙ ap (λ (n : ℕ). bytes_of 16 (n * 8)) c.from-bits.ensures in
+    rw (c.copy_at.ensures, bits, c.copy.ensures)
+    (pad-laid c.args.out.now c.args.head.now c.args.total c.requires.out_value _ refl)

@@ -1,8 +1,7 @@
--- The tail that comes back is a write into the whole.
-use Rattle.stretch.proofs.Over.{over-tail-front}
+use native.Mathlib.Nat.{add-sub_cancel_left}
+use Rattle.stretch.specs.Over.{over}
 use Rattle.stretch.proofs.write.copy_at.Goals as goal
 
 pub returns : goal.returns
-returns c =
-    rw c.copy.ensures
-    (over-tail-front c.args.to.now c.args.place c.args.from.now c.requires)
+unfolding over
+returns c = rw (c.copy_from_slice.ensures.after, add-sub_cancel_left)

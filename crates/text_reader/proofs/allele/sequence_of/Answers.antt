@@ -1,18 +1,10 @@
--- The part that the text's reading points at, or the empty one of a text that is refused.
-use Rattle.std.proofs.Common.{refl}
-use Rattle.text_reader.proofs.Promises.{accepted-allele, refused-allele, hands-part, hands_none}
+-- The part that the text's reading points at, or nothing of a text that is refused.
+use Rattle.std.proofs.Common.{rules}
+use Rattle.text_reader.proofs.Promises.{sequence-points, points-within, points-hands}
 use Rattle.text_reader.proofs.allele.sequence_of.Goals as goal
 
 pub part_of-requires : goal.part_of-requires
-part_of-requires c =
-    (accepted-allele c.in-Accepted.ensures refl).sequence.within
+part_of-requires c = points-within (sequence-points _ c.read_allele.ensures (search rules))
 
-pub returns-in-Accepted : goal.returns-in-Accepted
-returns-in-Accepted c =
-    let s = accepted-allele c.in-Accepted.ensures refl in
-    hands-part s.is s.sequence c.part_of.ensures
-
-pub returns-in-Refused : goal.returns-in-Refused
-returns-in-Refused c =
-    let other = refused-allele c.in-Refused.ensures refl in
-    hands_none other c.part_of-in-Refused.ensures
+pub returns : goal.returns
+returns c = points-hands _ _ (sequence-points _ c.read_allele.ensures (search rules)) c.part_of.ensures

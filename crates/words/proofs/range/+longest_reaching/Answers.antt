@@ -1,16 +1,11 @@
 -- All of the digits, or those of the tenth part.
 use Rattle.std.proofs.Common.{arith}
 use Rattle.decimals.proofs.Digits.{decimal-long, length-tenth}
-use Rattle.words.proofs.Ranges.{longest-zero, longest-reached, longest-digit, longest-tenth}
+use Rattle.words.proofs.Ranges.{longest-zero, longest-digit, longest-tenth}
 use Rattle.words.proofs.range.+longest_reaching.Goals as goal
 
 pub returns-then-number-eq0 : goal.returns-then-number-eq0
 returns-then-number-eq0 t c = let r = c.requires.least_nonzero in rw c.if-number-eq0.true (longest-zero _ _ r.1 r.0)
-
-pub returns-then-reaches : goal.returns-then-reaches
-returns-then-reaches t c =
-    rw c.requires.digits_value
-    (longest-reached _ _ c.requires.least_nonzero.1 _ _ c.reaches.ensures c.if-reaches.true)
 
 pub returns-then-number-lt10 : goal.returns-then-number-lt10
 returns-then-number-lt10 t c =

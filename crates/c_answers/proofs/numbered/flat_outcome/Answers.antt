@@ -1,8 +1,0 @@
--- Each arm is the definition's case.
-use Rattle.c_answers.proofs.numbered.flat_outcome.Goals as goal
-
-pub returns-in-Accepted : goal.returns-in-Accepted
-returns-in-Accepted c = rw c.in-Accepted.is
-
-pub returns-in-Refused : goal.returns-in-Refused
-returns-in-Refused c = rw c.in-Refused.is

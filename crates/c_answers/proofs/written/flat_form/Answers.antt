@@ -1,8 +1,0 @@
--- Each arm is the definition's case.
-use Rattle.c_answers.proofs.written.flat_form.Goals as goal
-
-pub returns-in-Accepted : goal.returns-in-Accepted
-returns-in-Accepted c = rw c.in-Accepted.is (rw c.flat_kind.ensures)
-
-pub returns-in-Refused : goal.returns-in-Refused
-returns-in-Refused c = rw (c.in-Refused.is, c.still.ensures)

@@ -1,8 +1,0 @@
--- Each arm is the definition's case.
-use Rattle.c_answers.proofs.written.flat_written.Goals as goal
-
-pub returns-in-Bytes : goal.returns-in-Bytes
-returns-in-Bytes c = rw c.in-Bytes.is
-
-pub returns-in-Refused : goal.returns-in-Refused
-returns-in-Refused c = rw c.in-Refused.is

@@ -1,0 +1,9 @@
+-- The statuses as an image's records have them.
+use Rattle.std.specs.Prelude.{ℕ}
+use Rattle.image.specs.declared.status.Status.{Status}
+use Rattle.image.specs.declared.status.Status.TheVariants.{Inactive, Active}
+use Rattle.image.specs.Fields.{inactive, active}
+
+abbrev pub code_of : Status → ℕ
+code_of Inactive = inactive
+code_of Active = active
