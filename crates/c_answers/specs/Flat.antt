@@ -9,6 +9,7 @@ use Rattle.moved.specs.Moved.{still}
 use Rattle.allele_identifier.specs.declared.Identified.{Identified}
 use Rattle.text_reader.specs.declared.LocationParts.{LocationParts}
 use Rattle.text_reader.specs.declared.AlleleParts.{AlleleParts}
+use Rattle.image.specs.Statuses.{code_of}
 use Rattle.form_entry.specs.declared.Entered.{Entered}
 use Rattle.form_entry.specs.declared.Way.{Way}
 use Rattle.form_entry.specs.declared.Way.TheVariants.{New, Again, Known}
@@ -89,7 +90,7 @@ flat_record (Ok p) =
       value = 0;
       start = p.start;
       end = p.end;
-      status = p.status;
+      status = code_of p.status;
       offset = p.offset;
       length = p.length;
     }

@@ -73,7 +73,7 @@ impl From<Result<Record, Refusal>> for FvRecord {
             Ok(read) => FvRecord {
                 start: read.start,
                 end: read.end,
-                status: read.status,
+                status: usize::from(read.status) as u64,
                 offset: read.offset,
                 length: read.length,
                 ..FvRecord::default()

@@ -8,3 +8,4 @@ pub mod Range
 pub mod Tested
 pub mod WellFormed
 pub mod Lengths
+pub mod Coded

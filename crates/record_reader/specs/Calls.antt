@@ -3,6 +3,7 @@ use Rattle.std.specs.Prelude.{ℕ, ◌+◌, List, [], ◌∷◌, Result}
 use Rattle.refusal.specs.Verdict.{Ground, verdict, tell}
 use Rattle.refusal.specs.declared.Refusal.{Refusal}
 use Rattle.image.specs.Fields.{start_of, end_of, status_of, pool_offset, offset_of, length_of}
+use Rattle.image.specs.Statuses.{status_from}
 use Rattle.changes.specs.Grounds.{not_well_formed, number_zero, number_above_issued}
 use Rattle.record_reader.specs.declared.Record.{Record}
 
@@ -20,7 +21,7 @@ record_at b i =
     record {
       start = start_of b i;
       end = end_of b i;
-      status = status_of b i;
+      status = status_from (status_of b i);
       offset = pool_offset b + offset_of b i;
       length = length_of b i;
     }

@@ -8,15 +8,15 @@ mod checking;
 mod reading;
 
 pub use checking::check;
+use image::Status;
 pub use reading::{check_number, read_record};
 
-// What stands under a number: its normal interval, its status (1 active, 0 inactive), and where its replacement
-// lies in the image. All five are numbers, as the C interface hands them on.
+// What stands under a number: its normal interval, its status, and where its replacement lies in the image.
 #[derive(Clone, Copy)]
 pub struct Record {
     pub start: u64,
     pub end: u64,
-    pub status: u64,
+    pub status: Status,
     pub offset: u64,
     pub length: u64,
 }

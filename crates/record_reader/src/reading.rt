@@ -9,7 +9,7 @@ use super::Record;
 use super::checking::check;
 use image::{
     END_IN_RECORD, ISSUED_AT, LENGTH_IN_RECORD, OFFSET_IN_RECORD, POOL_OFFSET_AT, START_IN_RECORD,
-    STATUS_IN_RECORD, read_field, read_number,
+    Status, is_active, read_field, read_number,
 };
 use refusal::{Reason, Refusal, refuse};
 
@@ -27,6 +27,7 @@ pub fn check_number(image: &[u8], number: u64) -> Result<(), Refusal>
 }
 
 // The record of a number that was issued.
+#[tactic(auto, unfolding(image::specs::Statuses::status_from))]
 fn record_of(image: &[u8], number: usize) -> Record
     requires header { Header image.now }
     requires le_number { (1 ≤ number) × (number ≤ issued image.now) }
@@ -34,13 +35,17 @@ fn record_of(image: &[u8], number: usize) -> Record
 {
     let start = read_field(image, number, START_IN_RECORD);
     let end = read_field(image, number, END_IN_RECORD);
-    let status = read_field(image, number, STATUS_IN_RECORD);
+    let status = if is_active(image, number) {
+        Status::Active
+    } else {
+        Status::Inactive
+    };
     let offset = read_number(image, POOL_OFFSET_AT) + read_field(image, number, OFFSET_IN_RECORD);
     let length = read_field(image, number, LENGTH_IN_RECORD);
     Record {
         start: start as u64,
         end: end as u64,
-        status: status as u64,
+        status,
         offset: offset as u64,
         length: length as u64,
     }

@@ -1,6 +1,7 @@
 // The calls as they are printed: each with its answer on a line, then the buffer, but for those that only read it.
 use blank::Capacities;
 use form_entry::{Entered, Way};
+use image::Status;
 use printer::{Answer, Hex, Shown, part};
 use record_reader::{Record, read_record};
 use refusal::Refusal;
@@ -66,7 +67,10 @@ impl fmt::Display for Under<'_> {
             offset,
             length,
         } = self.0;
-        let status = if status == 1 { "active" } else { "inactive" };
+        let status = match status {
+            Status::Active => "active",
+            Status::Inactive => "inactive",
+        };
         let replacement = Shown(self.1);
         write!(
             f,
