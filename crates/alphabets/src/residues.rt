@@ -43,9 +43,10 @@ fn all_residues(s: &[u8]) -> bool
     all_of::<Letter>(s) || all_of::<Residue>(s)
 }
 
-// How many bytes lie in the blocks of residues that `s` begins with. What is left behind its last whole block
-// counts too where it is letters alone.
-fn clean_blocks(s: &[u8]) -> usize
+// How many bytes lie in the blocks of residues that `s` begins with. Not laid into its callers: there its loops would
+// take the registers from the test of a few residues.
+#[inline(never)]
+fn whole_blocks(s: &[u8]) -> usize
     ensures upper_bound { result ≤ length s.now }
     ensures s_value { foreign s.now ≡ result + foreign (drop result s.now) }
 {
@@ -56,6 +57,15 @@ fn clean_blocks(s: &[u8]) -> usize
         }
         clean += block.len();
     }
+    clean
+}
+
+// The same, and what is left behind the last whole block counts too where it is letters alone.
+fn clean_blocks(s: &[u8]) -> usize
+    ensures upper_bound { result ≤ length s.now }
+    ensures s_value { foreign s.now ≡ result + foreign (drop result s.now) }
+{
+    let clean = whole_blocks(s);
     if all_of::<Letter>(&s[clean..]) {
         return s.len();
     }

@@ -1,5 +1,5 @@
 // The normal form of an allele that has passed its tests. It looks at what is trimmed and rolled, and
-// at nothing else of the reference.
+// at nothing else of the reference. What hands stretches on is laid into its callers.
 ghost use Rattle.std.specs.Prelude.{◌≡◌, ◌-◌, ◌≤◌, length, map};
 ghost use Rattle.normal_form.specs.Form.{Allele};
 ghost use Rattle.normal_form.specs.Stretches.{spread, as_given, stretches_of};
@@ -74,6 +74,7 @@ fn justify(
 // The normal form of an allele by how far its replacement, of `given` residues, agrees with the
 // reference: `ahead` of them from start on, and `behind` of them backwards from end on. An unchanged one
 // is answered as given.
+#[inline(always)]
 pub fn form_by_agreement(
     reference: &[u8],
     start: usize,
@@ -92,6 +93,7 @@ pub fn form_by_agreement(
 }
 
 // The normal form of an allele whose replacement is read so.
+#[inline(always)]
 pub fn normalise_read<R: Reading>(
     reference: &[u8],
     start: usize,
@@ -107,6 +109,7 @@ pub fn normalise_read<R: Reading>(
 }
 
 // The normal form of an allele.
+#[inline(always)]
 pub fn normalise(reference: &[u8], start: usize, end: usize, replacement: &[u8]) -> Stretches
     requires { Allele reference.now start end replacement.now }
     ensures { result ≡ stretches_of reference.now start end replacement.now }

@@ -7,6 +7,7 @@ use alphabets::first_foreign;
 use stretch::Three;
 
 // The offset of the first byte of the text that is no residue, or its length where there is none.
+#[inline(always)]
 pub fn first_foreign_of(text: Three) -> usize
     requires { whole_length text < 2 ^ 64 }
     ensures { result ≡ foreign (whole text.entry) }

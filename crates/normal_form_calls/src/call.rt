@@ -1,4 +1,5 @@
-// The calls: an allele is tested, formed and written, each by its own function.
+// The calls: an allele is tested, formed and written, each by its own function. What hands stretches on is laid into its
+// callers, so that their nine words don't go through memory each time.
 ghost use Rattle.std.specs.Prelude.{◌≡◌, ◌+◌, ◌≤◌, length, map};
 ghost use Rattle.stretch.specs.Over.{Wrote};
 ghost use Rattle.normal_form.specs.Stretches.{Fits, Countable, joined, joined_length};
@@ -41,6 +42,7 @@ pub fn check_given(
 }
 
 // Where the normal form lies, by the tests 1 to 4 alone: 5 is left to the caller.
+#[inline(always)]
 pub fn locate(
     reference: &[u8],
     start: u64,
@@ -54,6 +56,7 @@ pub fn locate(
 }
 
 // 5 alone, of stretches that `locate` found.
+#[inline(always)]
 pub fn clean(reference: &[u8], replacement: &[u8], w: Stretches) -> Result<Stretches, Refusal>
     requires { Fits reference.now replacement.now w }
     ensures { result ≡ cleanly reference.now replacement.now w }
@@ -66,6 +69,7 @@ pub fn clean(reference: &[u8], replacement: &[u8], w: Stretches) -> Result<Stret
 }
 
 // Where the normal form lies, by the tests 1 to 5.
+#[inline(always)]
 pub fn locate_clean(
     reference: &[u8],
     start: u64,

@@ -32,6 +32,7 @@ fn words_agreed<E: End, R: Reading>(a: &[u8], b: &[u8]) -> usize
 }
 
 // How many bytes of `a` agree, from an end on, with those of `b` as read.
+#[inline(never)]
 pub fn agreed<E: End, R: Reading>(a: &[u8], b: &[u8]) -> usize
     ensures { result ≡ lcp (E.order a.now) (E.order (map R.reads b.now)) }
 {

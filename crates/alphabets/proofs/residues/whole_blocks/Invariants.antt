@@ -2,7 +2,7 @@
 use Rattle.std.specs.Slice.Iter.{chunks_exact_rest}
 use Rattle.alphabets.specs.Alphabets.{residue}
 use Rattle.alphabets.proofs.Asked.{Passed}
-use Rattle.alphabets.proofs.residues.clean_blocks.Given as goal
+use Rattle.alphabets.proofs.residues.whole_blocks.Given as goal
 
 abbrev pub invariant-loop-block : goal.invariant-loop-block
 invariant-loop-block l = record {
