@@ -6,11 +6,8 @@ use native.Mathlib.Omega.{arith}
 use mathlib.Core.Path.{◌≡◌, refl, ◌∙◌}
 use mathlib.Core.List.{List, [], ◌∷◌}
 use lib.Dec.{eqb}
-use Rattle.std.proofs.Common.{◌≢◌, Option, MatchOption, HoldsAt, unwrap_or}
-use Rattle.std.specs.List.{AllWithin}
-use Rattle.std.proofs.lemmas.Iterator.{index_from_first}
-use lib.ListN.{length, take, drop, length-drop, drop_of_length-le}
-use lib.Seq.{drop-drop}
+use lib.ListN.{length, get_or, take, drop, length-drop, drop_of_length-le}
+use lib.Seq.{drop-cons, drop-drop}
 use borrow.Author.Tests.{eq-eqb, ne_eqb}
 use Rattle.stretch.specs.Part.{part}
 use Rattle.stretch.proofs.Cases.{by_cases}
@@ -19,23 +16,21 @@ use Rattle.stretch.proofs.Outside.{first_outside-le}
 use Rattle.fields.specs.Cut.{parted, other, first_of, next_of}
 
 module _ (mark : ℕ) (s : List ℕ) where
+  -- a loop that has come to i: it goes on, it stops there, it is at the end
+  pub next-on : (i : ℕ) → i < length s → (get_or s i 0 ≡ mark → ⊥) → next_of mark s i ≡ next_of mark s (i + 1)
+  unfolding first_outside
+  next-on i l f = rw (drop-cons s i 0 l, ne_eqb _ _ f, add-one) (omega arith)
+
+  pub next_here : (i : ℕ) → i < length s → get_or s i 0 ≡ mark → next_of mark s i ≡ i
+  unfolding first_outside
+  next_here i l e = rw (drop-cons s i 0 l, eq-eqb _ _ e) (add-zero i)
+
   pub next-end : (i : ℕ) → length s ≤ i → next_of mark s i ≡ i
   unfolding first_outside
   next-end i l = rw (drop_of_length-le s {i = i} l) (add-zero i)
 
   pub next_le : (i : ℕ) → i ≤ length s → next_of mark s i ≤ length s
   next_le i l = omega (arith, first_outside-le (other mark) (drop i s), length-drop i s)
-
--- the first mark, as `position` finds it
-pub first_of-from_position : (mark : ℕ) (s : List ℕ) (r : Option ℕ)
-    → MatchOption r (AllWithin (λ b. b ≢ mark) s 0 (length s))
-    (λ i. (i < length s) × HoldsAt (λ b. b ≡ mark) s i × AllWithin (λ b. b ≢ mark) s 0 i)
-    → first_of mark s ≡ unwrap_or r (length s)
-unfolding first_outside
-first_of-from_position mark =
-    index_from_first (first_of mark) (λ b. b ≡ mark) (λ b. b ≢ mark) refl
-    (λ x xs e. rw (eq-eqb _ _ e))
-    (λ x xs f. rw (ne_eqb _ _ f) (omega arith))
 
 -- a first piece and the rest, or one piece
 pub parted-cut : (mark : ℕ) (s : List ℕ) → first_of mark s < length s
