@@ -11,6 +11,7 @@ use Rattle.refusal.specs.declared.Reason.TheVariants.{OutputTooShort}
 use Rattle.refusal.specs.declared.Refusal.{Refusal}
 use Rattle.refusal.specs.Verdict.{Ground, accepted, refused, verdict}
 use Rattle.refusal.specs.Writes.{WritesUnless}
+use Rattle.refusal.proofs.Keeps.{keeps-result}
 use Rattle.refusal.proofs.WritesUnless.{writes-unless-then, writes-unless-short, writes-unless-room}
 use Rattle.refusal.proofs.Writes.{writes-all}
 use Rattle.refusal.proofs.Verdict.{verdict-first, verdict-then, verdict-fewer, verdict-later}
@@ -21,10 +22,12 @@ use Rattle.normal_form.specs.declared.Stretches.{Stretches}
 use Rattle.normal_form.specs.Form.{Normal, normal}
 use Rattle.normal_form.specs.Stretches.{Fits, joined, joined_length, stretches_of, form_in}
 use Rattle.normal_form.proofs.Join.{stretches-fit, stretches-join}
+use Rattle.moved.specs.declared.Moved.{Moved}
 use Rattle.moved.specs.Moved.{moved_by, moved_in}
 use Rattle.moved.proofs.Ends.{stretches-moved}
 use Rattle.normal_form_calls.specs.Calls.{given_grounds, located, cleanly}
 use Rattle.normal_form_calls.proofs.Answers.{given-allele, located-form}
+use Rattle.allele_identifier.specs.declared.Identified.{Identified}
 use Rattle.allele_identifier.specs.Identifier.{text_of, identifier_of, around_sequence}
 use Rattle.allele_identifier.specs.Calls.{allele_grounds, WritesAllele, IdentifiesAllele}
 use Rattle.allele_identifier.specs.Inner.{allele_answer}
@@ -136,6 +139,10 @@ module _ (r : List ℕ) (start end : ℕ) (x digest : List ℕ) where
   allele-refused why e = told-refused (verdict (allele_grounds r start end x digest)) (stretches_of r start end x) why e
 
   -- what is written of the identifier, with how far the form moved
+  abbrev identified : Moved → Result ℕ Refusal → Result Identified Refusal
+  identified m (Ok n) = Ok (record { length = n; moved = m })
+  identified m (Err why) = Err why
+
   module _ (out : List ℕ) (place : ℕ) (left : List ℕ) where
     pub identifies-form : (n : ℕ)
         → WritesUnless (allele_grounds r start end x digest) (identifier_of form digest) out place (Ok n) left
@@ -143,12 +150,11 @@ module _ (r : List ℕ) (start end : ℕ) (x digest : List ℕ) where
         (Ok (record { length = n; moved = moved_by r start end x })) left
     unfolding IdentifiesAllele WritesUnless
     identifies-form n p =
-        let t = told-accepted _ (length (identifier_of form digest)) n p.answers in
-        record { answers = rw (t.0, t.1); leaves = p.leaves }
+        keeps-result (identified (moved_by r start end x)) _ _ refl (λ why. refl) _ out _ (Ok n) left p
 
     pub identifies-nothing : (why : Refusal)
         → WritesUnless (allele_grounds r start end x digest) (identifier_of form digest) out place (Err why) left
         → IdentifiesAllele r start end x digest out place (Err why) left
     unfolding IdentifiesAllele WritesUnless
     identifies-nothing why p =
-        record { answers = rw (told-refused _ (length (identifier_of form digest)) why p.answers); leaves = p.leaves }
+        keeps-result (identified (moved_by r start end x)) _ _ refl (λ why. refl) _ out _ (Err why) left p
