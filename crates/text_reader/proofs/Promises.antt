@@ -64,6 +64,11 @@ hands-once Kind stretch one text _ _ (hands a) (nothing f) = absurd (f a)
 hands-once Kind stretch one text _ _ (nothing f) (hands b) = absurd (f b)
 hands-once Kind stretch one text _ _ (nothing f) (nothing g) = refl
 
+-- the empty stretch, of a text of another kind
+pub hands_none : (Kind : List ℕ → Type 0) (stretch : (text : List ℕ) → Kind text → List ℕ) (text s : List ℕ)
+    → (Kind text → ⊥) → s ≡ part text 0 0 → HandsBack Kind stretch text s
+hands_none Kind stretch text s other e = rw e (nothing other)
+
 pub digest-of-once : (text s₁ s₂ : List ℕ) → HandsBack LocationText (λ t a. a.digest) text s₁
     → HandsBack LocationText (λ t a. a.digest) text s₂ → s₁ ≡ s₂
 digest-of-once = hands-once LocationText (λ t a. a.digest) location-digest

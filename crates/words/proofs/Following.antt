@@ -62,11 +62,17 @@ pub record Open (Kind : List ℕ → Type 0) : Type 0 where
   pub text : List ℕ
   pub is-text : Kind text
 
+pub open_done : Open Done
+open_done = record { text = []; is-text = refl }
+
 -- the first bytes of a text of a kind begin one
 begins-take : (Kind : List ℕ → Type 0) (w : List ℕ) (j : ℕ) → Kind w → Begins Kind (take j w)
 begins-take Kind w j k = record { rest = drop j w; whole = rw (take-append-drop j w) k }
 
 module _ (Kind : List ℕ → Type 0) (Next : List ℕ → List ℕ → Type 0) where
+  pub open-then : (w : List ℕ) → Kind w → Open (Next w) → Open (Then Kind Next)
+  open-then w k o = record { text = w ++ o.text; is-text = word-then w o.text k o.is-text }
+
   -- of two words that begin one text the one that is followed is not the shorter
   not-shorter : Apart Kind Next → (w v w' v' : List ℕ) → w ++ v ≡ w' ++ v' → Kind w → Next w v → Kind w'
       → length w < length w' → ⊥
