@@ -22,9 +22,9 @@ Versions of the code, or of what it promises, that the prover has to refuse: cra
 NAME/LABEL. The gate tries each one. tests/wrong_versions.py makes this page of the comments that they begin with;
 [CONTRIBUTING.md](CONTRIBUTING.md) says how to write one.
 
-`running_digest::feed`, `running_digest::finish` and their C exports hand on what the by-value calls answer. So the wrong
-versions in `running_digest`, and finish's in `fearnavult`, keep the code and promise something else; the others of these
-calls change what stands below.
+`running_digest::feed`, `running_digest::finish` and their C exports hand on what the calls of `sequence_identifier`
+answer. So the wrong versions in `running_digest`, and finish's in `fearnavult`, keep the code and promise something else;
+the others of these calls change what stands below.
 """
 
 

@@ -1,4 +1,5 @@
-// Letters read as upper case: stretches tested, compared and copied so, as they lie in what was lent.
+// Letters read as upper case: stretches tested so as they lie in what was lent, and read so where `stretch` compares and
+// lays them.
 // Crates `vcf_line` and `vcf_form` stand on it.
 #![tactic(auto)]
 
